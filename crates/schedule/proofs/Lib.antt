@@ -1,0 +1,10 @@
+-- Laws of lists, the choice, and the three steps; then the statements of specs/.
+pub mod Laws
+pub mod Choice
+pub mod Starts
+pub mod Pass
+pub mod Accept
+pub mod Course
+pub mod Timing
+pub mod Out
+pub mod Example
