@@ -16,11 +16,12 @@ use Rattle.model.specs.Tick.{view, stationAfter, vacate, moveTo, starts, leave}
 use Rattle.model.specs.DelayBound.{sumOf, maximaOf}
 use Rattle.model.specs.Admission.{Block, arrival, joinedBy, joinedLive}
 use Rattle.model.specs.History.{Entry, History, live, isNone, liveOrders, entryDue, members, entering, joins, acceptIn, entryView, startsIn, leaves, leaveIn}
+use Rattle.model.specs.StateOf.{recordOver, recordOf, stateOf}
 use Rattle.schedule.specs.Valid.{_∈_, RisingBy}
 use Rattle.schedule.specs.Pass.{passTo}
 use Rattle.schedule.specs.Accept.{acceptNext}
 use Rattle.schedule.proofs.Laws.{test, by-cond, only-in, rising-map, rising-append}
-use Rattle.delay.specs.Events.{recordOver, recordOf, stateOf, passIn}
+use Rattle.delay.specs.Events.{passIn}
 use Rattle.delay.proofs.Sums.{map-map}
 use Rattle.delay.proofs.Members.{costsOf, costsIn, costs-moved, costs-joined, costs-apart, costs-own, sumOf-last, maximaOf-last}
 

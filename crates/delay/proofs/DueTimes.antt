@@ -18,6 +18,7 @@ use Rattle.model.specs.Tick.{oneLess, stationAfter}
 use Rattle.model.specs.DelayBound.{sumOf, maximaOf, delayBound, boundTick, onTime}
 use Rattle.model.specs.Admission.{Block, arrival, joinedBy, joinedLive, accept}
 use Rattle.model.specs.History.{Entry, History, begun, live, isNone, liveOrders, entryDue, members, entryBound, acceptIn, entryView, startsIn, tickIn, leaves, leaveIn, advanceIn}
+use Rattle.model.specs.StateOf.{recordOf, stateOf}
 use Rattle.schedule.specs.Valid.{_∈_, Ready}
 use Rattle.schedule.specs.Pass.{Ticked}
 use Rattle.schedule.specs.Accept.{Acceptable, acceptNext}
@@ -26,7 +27,7 @@ use Rattle.schedule.proofs.Starts.{ready-starts}
 use Rattle.schedule.proofs.Pass.{ticked-plain, Onward, onward}
 use Rattle.schedule.proofs.Accept.{plain-accept}
 use Rattle.delay.specs.Promise.{Promise}
-use Rattle.delay.specs.Events.{recordOf, stateOf, Event, accepting, starting, passing, passIn, happens, afterEvents, MayAccept, MayPass, MayHappen, AllMayHappen, stateAfter}
+use Rattle.delay.specs.Events.{Event, accepting, starting, passing, passIn, happens, afterEvents, MayAccept, MayPass, MayHappen, AllMayHappen, stateAfter}
 use Rattle.delay.specs.DueTimes.{Reached, reached, DueTimesHold, AdvanceMayCome, StoredAsInHistory, OneOutPerTick}
 use Rattle.delay.proofs.Promise.{promise-fresh, promise-starts, promise-pass, promise-accept, live-in-time}
 use Rattle.delay.proofs.Book.{Filed, new, joined, joins-out, joins-live, joins-out-stays, new-live, length-accept, same-n, same-clock, From, old, entered, from, members-out, record-joined, record-new, state-accept, filed-accept, state-starts, filed-starts, leaves-accepted, leaves-due, leaves-out-stays, members-leave, ticking, state-pass, filed-pass}

@@ -12,11 +12,12 @@ use Rattle.model.specs.Tick.{precedes, better, first, entryOf, startAt, startEa
 use Rattle.model.specs.DelayBound.{sumOf, maximaOf, delayBound, boundTick, onTime}
 use Rattle.model.specs.Admission.{Block, dueOf, arrival, joinedBy, joinedLive}
 use Rattle.model.specs.History.{Entry, History, begun, isNone, live, liveOrders, entryDue, members, entryBound, entering, joins, acceptIn, entryView, startsIn, leaves, leaveIn}
+use Rattle.model.specs.StateOf.{recordOf, stateOf}
 use Rattle.schedule.specs.Valid.{_∈_}
 use Rattle.schedule.specs.Pass.{Ticked}
 use Rattle.schedule.proofs.Laws.{same-ticket, same-left, at-map}
 use Rattle.schedule.proofs.Pass.{ticked-plain}
-use Rattle.delay.specs.Events.{recordOf, stateOf, Event, accepting, starting, passing, passIn, MayAccept, MayPass}
+use Rattle.delay.specs.Events.{Event, accepting, starting, passing, passIn, MayAccept, MayPass}
 use Rattle.delay.specs.DueTimes.{Reached, reached, InTime}
 use Rattle.delay.proofs.DueTimes.{Kept, kept-begun, kept-accept, kept-starts, kept-pass, may-pass, due-times-hold}
 

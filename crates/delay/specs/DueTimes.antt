@@ -8,8 +8,9 @@ use Rattle.model.specs.Limits.{maxStations, lastTicket}
 use Rattle.model.specs.State.{fresh}
 use Rattle.model.specs.Tick.{oneLess}
 use Rattle.model.specs.History.{Entry, History, begun, entryDue, entryBound, startsIn, advanceIn}
+use Rattle.model.specs.StateOf.{stateOf}
 use Rattle.schedule.specs.Valid.{_∈_}
-use Rattle.delay.specs.Events.{stateOf, Event, passIn, afterEvents, MayPass, AllMayHappen, stateAfter}
+use Rattle.delay.specs.Events.{Event, passIn, afterEvents, MayPass, AllMayHappen, stateAfter}
 
 -- A history that such a list of events leaves.
 pub record Reached (n : ℕ) (events : List Event) : Type 0 where

@@ -1,41 +1,19 @@
--- What happens to a history: acceptances, starts and ticks; when each may come; and the state that a history stands for.
+-- What happens to a history: acceptances, starts and ticks; and when each may come.
 use mathlib.Core.Path.{_≡_}
 use mathlib.Core.Bool.{true}
-use mathlib.Core.List.{List, [], _∷_, map}
+use mathlib.Core.List.{List, [], _∷_}
 use Prim.Native.Nat.{ℕ, _+_, _≤_}
-use lib.ListN.{length}
-use Rattle.model.specs.declared.Order.{Order}
 use Rattle.model.specs.declared.Service.{Service}
 use Rattle.model.specs.Limits.{maxCost}
 use Rattle.model.specs.Lists.{at, all}
 use Rattle.model.specs.State.{State}
 use Rattle.model.specs.Tick.{starts}
-use Rattle.model.specs.DelayBound.{sumOf, maximaOf, onTime}
+use Rattle.model.specs.DelayBound.{onTime}
 use Rattle.model.specs.Admission.{Block, arrival, joinedLive, accept}
-use Rattle.model.specs.History.{Entry, History, liveOrders, entryDue, members, acceptIn, startsIn, leaveIn}
+use Rattle.model.specs.History.{History, acceptIn, startsIn, leaveIn}
+use Rattle.model.specs.StateOf.{stateOf}
 use Rattle.schedule.specs.Valid.{Ready}
 use Rattle.schedule.specs.Pass.{Ticked, passTo}
-
--- The record of an accepted order, with its sum and maxima over the costs of an interference set: over the history's; and the state with the history's live orders.
-unfoldable pub recordOver : List (List ℕ) → Entry → Order
-recordOver costs e =
-    record {
-      ticket = e .ticket;
-      accepted = e .accepted;
-      due = entryDue e;
-      sum = sumOf costs;
-      station = e .station;
-      ranks = e .block .ranks;
-      costs = e .block .costs;
-      maxima = maximaOf costs;
-    }
-
-unfoldable pub recordOf : History → Entry → Order
-unfolding recordOver
-recordOf h e = recordOver (members h e) e
-
-unfoldable pub stateOf : History → State
-stateOf h = record { n = h .n; clock = h .clock; next = length (h .orders) + 1; services = h .services; orders = map (recordOf h) (liveOrders h) }
 
 -- An acceptance; the starts; a tick after which the stations' entries are these.
 pub data Event : Type 0 where

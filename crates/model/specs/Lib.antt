@@ -12,4 +12,7 @@ pub mod Questions
 pub mod Admission
 pub mod Calls
 pub mod History
+pub mod StateOf
 pub mod Demand3
+pub mod Table
+pub mod Cases

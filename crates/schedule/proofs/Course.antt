@@ -232,11 +232,14 @@ module _ (s : State) (valid : Valid s) (t : ℕ) (costs : List ℕ) where
               })
           far (inr f) =
               let last : k ≡ s .n = omega (arith, f .1, h .here, valid .fit (h .order) (h .live) .high) in
-              inr (last, record {
-                named = held-named k h;
-                absent = λ o m e. gone last o m (e ∙ sym (h .named) ∙ ap (λ (x : Order). x .ticket) (sym is));
-                given = given (valid .below (h .order) (h .live));
-              })
+              inr (
+                last,
+                record {
+                  named = held-named k h;
+                  absent = λ o m e. gone last o m (e ∙ sym (h .named) ∙ ap (λ (x : Order). x .ticket) (sym is));
+                  given = given (valid .below (h .order) (h .live));
+                },
+              )
             where
               given : (s .next ≡ 0) ⊎ (h .order .ticket < s .next) → (next .next ≡ 0) ⊎ (t < next .next)
               given (inl z) = inl z

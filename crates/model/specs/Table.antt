@@ -1,0 +1,119 @@
+-- The table of worked cases: what a row says, and the one test that reads rows in turn. Each call gets the image as the row before left it. The history
+-- stands beside the image, kept from the calls and their numbers.
+use mathlib.Core.Bool.{Bool, true, false, cond, _&&_, _||_}
+use mathlib.Core.List.{List, [], _∷_, _++_, map}
+use mathlib.Core.Option.{Option, none, some}
+use Prim.Native.Nat.{ℕ, _+_}
+use lib.ListN.{length, take, drop, replicate}
+use lib.Dec.{eqb}
+use Rattle.model.specs.declared.Order.{Order}
+use Rattle.model.specs.declared.Service.{Service}
+use Rattle.model.specs.Lists.{isZero, part, total, largest, larger, concat, all, any, has, same, only, numbered, allStations, upward}
+use Rattle.model.specs.Bytes.{eightBytes, eightHalves}
+use Rattle.model.specs.State.{fresh}
+use Rattle.model.specs.Tick.{precedes, better, first, entryOf, startAt, startEach, oneLess, stationAfter, vacate, ticketOut, view, moveTo, starts, tick, leave, advance, advanceOut}
+use Rattle.model.specs.DelayBound.{sumOf, maximaOf, delayBound, boundTick, onTime, margin}
+use Rattle.model.specs.Layout.{imageSize, replySize}
+use Rattle.model.specs.Image.{marked, serviceOf, serviceBytes, orderOf, orderBytes, decode, encode}
+use Rattle.model.specs.Soundness.{stationCountInRange, liveCountInRange, clockInRange, zeroBytes, zeroBytesZero, unusedRecordsZero, rising, ticketsInOrder, acceptedByNow, dueInRange, stationInUse, costsInRange, maximaInRange, sumInRange, zeroBeyond, recordZeroBeyond, isIdle, fieldsBeyondZero, serves, servicesInOrder, clauses, sound}
+use Rattle.model.specs.Questions.{firstNo, Answer, replyBytes, zeros}
+use Rattle.model.specs.Admission.{blockOf, dueOf, arrival, joinedBy, joinedLive, accept, smallest, smallestMargin, orderQuestions, offerAnswer, quoteAnswer}
+use Rattle.model.specs.Calls.{Result, result, sizeQuestions, imageQuestions, openNumber, openCall, offerNumber, offerCall, quoteCall, advanceNumber, advanceAnswer, advanceCall, Call, opening, quoting, offering, advancing, perform}
+use Rattle.model.specs.History.{Entry, begun, isNone, live, liveOrders, entryDue, members, entryBound, entering, joins, acceptIn, entryView, startsIn, tickIn, leaves, leaveIn, advanceIn, feed}
+use Rattle.model.specs.StateOf.{recordOf, stateOf}
+use Rattle.model.specs.Demand3.{Run}
+
+pub data Row : Type 0 where
+  -- Open is done. The history begins anew.
+  opens : (n : ℕ) → Row
+  -- A call with a reply of 16 bytes: its number, and what the reply holds beside it. After another number than 0, or a quote, the image is as it was.
+  gives : (call : Call) (number : ℕ) (answer : Answer) → Row
+  -- The same, with the reply as bytes.
+  replies : (call : Call) (number : ℕ) (reply : List ℕ) → Row
+  -- A call lent a reply and an image of so many bytes is declined by the number. After 1 the reply is as it was; after another number it holds that, and
+  -- zeros. The image is as it was.
+  illSized : (replyLength imageLength : ℕ) (call : Call) (number : ℕ) → Row
+  -- As `gives`, on a copy of the image with other bytes from a place on.
+  altered : (place : ℕ) (bytes : List ℕ) (call : Call) (number : ℕ) (answer : Answer) → Row
+  -- Somebody else writes bytes over the image, from a place on. The history knows nothing of it.
+  written : (place : ℕ) (bytes : List ℕ) → Row
+  -- The image's bytes from a place on.
+  holding : (place : ℕ) (bytes : List ℕ) → Row
+  -- In the image: the stations of the live orders; the tickets in service at stations 1 to N, and their ticks to go.
+  stations : List ℕ → Row
+  serving : (tickets left : List ℕ) → Row
+  -- In the history, for every accepted order: the out tick, 0 while it is live; the acceptance tick + delay bound; the due tick.
+  outs : List ℕ → Row
+  bounds : List ℕ → Row
+  dues : List ℕ → Row
+  -- The image is the one that says what the history says: stations, clock and next ticket, and for each live order the sum and the maxima over its
+  -- interference set.
+  inStep : Row
+
+-- A list with other entries from a place on.
+unfoldable pub overwritten : List ℕ → ℕ → List ℕ → List ℕ
+overwritten l place bytes = take place l ++ bytes ++ drop (place + length bytes) l
+
+-- Whether a call that returned the number may have changed the image.
+unfoldable pub mayChange : Call → ℕ → Bool
+mayChange (opening n) number = isZero number
+mayChange (quoting block) number = false
+mayChange (offering block) number = isZero number
+mayChange advancing number = isZero number
+
+unfoldable pub outTick : Option ℕ → ℕ
+outTick none = 0
+outTick (some t) = t
+
+-- Whether a call on an image gave the number and the reply, and left the image alone where it must.
+unfoldable pub gave : Call → List ℕ → ℕ → List ℕ → Result → Bool
+gave call image number reply r = eqb (r .number) number && same (r .reply) reply && (mayChange call number || same (r .image) image)
+
+-- The run after a done open, and after any other call, by what the call gave. These are `started` and `afterCall`, which would make the call once more.
+unfoldable pub opened : ℕ → Result → Run
+opened n r = record { image = r .image; history = begun n }
+
+unfoldable pub onward : Run → Call → Result → Run
+onward run call r = record { image = r .image; history = feed call (r .number) (run .history) }
+
+-- A reply buffer of so many bytes, with others in it than a call leaves there.
+abbrev pub lent : ℕ → List ℕ
+lent size = replicate size 238
+
+-- Whether the rows hold, in turn, from a run on. The long line names all that the calls compute with, so that a proof unfolds `holds` alone.
+unfoldable pub holdsFrom : Run → List Row → Bool
+unfolding overwritten mayChange outTick gave opened onward total largest larger concat all any has same only numbered allStations upward eightBytes eightHalves fresh precedes better first entryOf startAt startEach oneLess stationAfter vacate ticketOut view moveTo starts tick leave advance advanceOut sumOf maximaOf delayBound boundTick onTime margin marked serviceOf serviceBytes orderOf orderBytes decode encode stationCountInRange liveCountInRange clockInRange zeroBytes zeroBytesZero unusedRecordsZero rising ticketsInOrder acceptedByNow dueInRange stationInUse costsInRange maximaInRange sumInRange zeroBeyond recordZeroBeyond isIdle fieldsBeyondZero serves servicesInOrder clauses sound firstNo replyBytes blockOf dueOf arrival joinedBy joinedLive accept smallest smallestMargin orderQuestions offerAnswer quoteAnswer result sizeQuestions imageQuestions openNumber openCall offerNumber offerCall quoteCall advanceNumber advanceAnswer advanceCall perform begun isNone live liveOrders entryDue members entryBound entering joins acceptIn entryView startsIn tickIn leaves leaveIn advanceIn feed recordOf stateOf
+holdsFrom run [] = true
+holdsFrom run (opens n ∷ rows) =
+    let r = perform (opening n) (run .image) (lent replySize) in
+    gave (opening n) (run .image) 0 (replyBytes 0 zeros) r && holdsFrom (opened n r) rows
+holdsFrom run (gives call number answer ∷ rows) =
+    let r = perform call (run .image) (lent replySize) in
+    gave call (run .image) number (replyBytes number answer) r && holdsFrom (onward run call r) rows
+holdsFrom run (replies call number reply ∷ rows) =
+    let r = perform call (run .image) (lent replySize) in
+    gave call (run .image) number reply r && holdsFrom (onward run call r) rows
+holdsFrom run (illSized replyLength imageLength call number ∷ rows) =
+    let image = take imageLength (run .image ++ (0 ∷ [])) in
+    let reply = cond (eqb number 1) (lent replyLength) (replyBytes number zeros) in
+    let r = perform call image (lent replyLength) in
+    eqb (r .number) number && same (r .reply) reply && same (r .image) image && holdsFrom run rows
+holdsFrom run (altered place bytes call number answer ∷ rows) =
+    let image = overwritten (run .image) place bytes in
+    gave call image number (replyBytes number answer) (perform call image (lent replySize)) && holdsFrom run rows
+holdsFrom run (written place bytes ∷ rows) = holdsFrom (record { image = overwritten (run .image) place bytes; history = run .history }) rows
+holdsFrom run (holding place bytes ∷ rows) = same (part (run .image) place (length bytes)) bytes && holdsFrom run rows
+holdsFrom run (stations expected ∷ rows) = same (map (λ (o : Order). o .station) (decode (run .image) .orders)) expected && holdsFrom run rows
+holdsFrom run (serving tickets left ∷ rows) =
+    let s = decode (run .image) in
+    let entries = take (s .n) (s .services) in
+    same (map (λ (e : Service). e .ticket) entries) tickets && same (map (λ (e : Service). e .left) entries) left && holdsFrom run rows
+holdsFrom run (outs expected ∷ rows) = same (map (λ (e : Entry). outTick (e .out)) (run .history .orders)) expected && holdsFrom run rows
+holdsFrom run (bounds expected ∷ rows) = same (map (entryBound (run .history)) (run .history .orders)) expected && holdsFrom run rows
+holdsFrom run (dues expected ∷ rows) = same (map entryDue (run .history .orders)) expected && holdsFrom run rows
+holdsFrom run (inStep ∷ rows) = same (run .image) (encode (stateOf (run .history))) && holdsFrom run rows
+
+-- From a buffer of 2,128 bytes that no call has written yet.
+unfoldable pub holds : List Row → Bool
+unfolding holdsFrom
+holds rows = holdsFrom (record { image = replicate imageSize 165; history = begun 0 }) rows
