@@ -13,21 +13,25 @@ use Rattle.model.specs.Demand3.{Lent, Run, started, outcome, afterCall, 
 use Rattle.model.specs.Table.{Row, opened, onward, holdsFrom, holds}
 use Rattle.model.specs.Cases.{X, Y, paperCases, tickCases, offerCases, imageCases, furtherCases, mixedStart, mixedCalls}
 
+-- A table is computed only once the one before it holds: a wrong definition is refused at the first table that it breaks.
+after : {A B : Type 0} → A → B → B
+after a b = b
+
 pub paper-cases-hold : all holds paperCases ≡ true
 unfolding all holds paperCases
 paper-cases-hold = refl {a = true}
 
 pub tick-cases-hold : all holds tickCases ≡ true
 unfolding all holds tickCases
-tick-cases-hold = refl {a = true}
-
-pub offer-cases-hold : all holds offerCases ≡ true
-unfolding all holds offerCases
-offer-cases-hold = refl {a = true}
+tick-cases-hold = after paper-cases-hold (refl {a = true})
 
 pub image-cases-hold : all holds imageCases ≡ true
 unfolding all holds imageCases
-image-cases-hold = refl {a = true}
+image-cases-hold = after tick-cases-hold (refl {a = true})
+
+pub offer-cases-hold : all holds offerCases ≡ true
+unfolding all holds offerCases
+offer-cases-hold = after image-cases-hold (refl {a = true})
 
 -- What all of two lists pass, all of both together pass.
 and-both : (x y z : Bool) → x && y ≡ true → (y ≡ true → z ≡ true) → x && z ≡ true
@@ -60,9 +64,9 @@ declined k e = omega arith
 
 pub mixed-allowed : AllAllowed mixedStart mixedCalls
 unfolding holdsFrom mixedStart mixedCalls X Y started afterCall outcome
-mixed-allowed = (tt, (declined 0 (refl {a = 1}), (declined 13 (refl {a = 14}), (tt, (tt, (tt, (tt, (tt, tt))))))))
+mixed-allowed = after further-cases-hold (tt, (declined 0 (refl {a = 1}), (declined 13 (refl {a = 14}), (tt, (tt, (tt, (tt, (tt, tt))))))))
 
 -- Both orders are accepted in it, and no other.
 pub mixed-accepted : map (λ (e : Entry). e .ticket) (afterAll mixedStart mixedCalls .history .orders) ≡ 1 ∷ 2 ∷ []
 unfolding holdsFrom mixedStart mixedCalls X Y started afterCall outcome afterAll
-mixed-accepted = refl {a = 1 ∷ 2 ∷ []}
+mixed-accepted = after mixed-allowed (refl {a = 1 ∷ 2 ∷ []})

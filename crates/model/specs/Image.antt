@@ -1,7 +1,7 @@
 -- Document 01, "The image": what an image says, and the image that says it.
 use mathlib.Core.Bool.{Bool, _&&_}
 use mathlib.Core.List.{List, [], _∷_, _++_, map}
-use Prim.Native.Nat.{ℕ, _+_, _*_, _-_}
+use Prim.Native.Nat.{ℕ, _*_, _-_}
 use lib.ListN.{length, take, replicate}
 use lib.Dec.{eqb}
 use Rattle.model.specs.declared.Order.{Order}
