@@ -70,14 +70,6 @@ live-record : (h : History) (e : Entry) → e ∈ h .orders → live e ≡ true 
 unfolding stateOf liveOrders
 live-record h e m l = Memᴰ·map (recordOf h) (in-only live (h .orders) m l)
 
-state-n : (h : History) → stateOf h .n ≡ h .n
-unfolding stateOf
-state-n h = refl
-
-state-clock : (h : History) → stateOf h .clock ≡ h .clock
-unfolding stateOf
-state-clock h = refl
-
 pub kept-live : (h : History) → Kept h → (e : Entry) → e ∈ h .orders → live e ≡ true → (h .clock < entryBound h e) × (h .clock < entryDue e)
 unfolding stateOf
 kept-live h kept e m l =

@@ -1,22 +1,21 @@
--- The premises of `DueTimesHold` can be met: a list of events with three acceptances, an advance, and a tick in which all that is in service ends early.
+-- The premises of `DueTimesHold` can be met: a list of events with three acceptances, an advance, and a tick in which all that is in service ends early. (`holdsFrom` names all that the calls compute with.)
 use mathlib.Core.Path.{_≡_, refl}
 use mathlib.Core.List.{List, [], _∷_, map}
-use Prim.Native.Nat.{ℕ, zero, suc, _≤_}
+use Prim.Native.Nat.{ℕ, _≤_}
 use native.Mathlib.Omega.{arith}
 use lib.ListN.{length-map}
 use Rattle.model.specs.declared.Service.{Service}
 use Rattle.model.specs.Limits.{maxCost}
-use Rattle.model.specs.Lists.{at, total, largest, larger, all, any, has, only, numbered}
 use Rattle.model.specs.State.{idle}
-use Rattle.model.specs.Tick.{precedes, better, first, entryOf, startAt, startEach, oneLess, stationAfter, vacate}
-use Rattle.model.specs.DelayBound.{sumOf, maximaOf, delayBound, boundTick, onTime}
-use Rattle.model.specs.Admission.{Block, dueOf, arrival, joinedBy, joinedLive}
-use Rattle.model.specs.History.{Entry, History, begun, isNone, live, liveOrders, entryDue, members, entryBound, entering, joins, acceptIn, entryView, startsIn, leaves, leaveIn}
-use Rattle.model.specs.StateOf.{recordOf, stateOf}
+use Rattle.model.specs.Tick.{oneLess}
+use Rattle.model.specs.Admission.{Block}
+use Rattle.model.specs.History.{Entry, History, begun, entryBound, acceptIn, startsIn}
+use Rattle.model.specs.Table.{holdsFrom}
 use Rattle.schedule.specs.Valid.{_∈_}
 use Rattle.schedule.specs.Pass.{Ticked}
 use Rattle.schedule.proofs.Laws.{same-ticket, same-left, at-map}
 use Rattle.schedule.proofs.Pass.{ticked-plain}
+use Rattle.schedule.proofs.Example.{of-two}
 use Rattle.delay.specs.Events.{Event, accepting, starting, passing, passIn, MayAccept, MayPass}
 use Rattle.delay.specs.DueTimes.{Reached, reached, InTime}
 use Rattle.delay.proofs.DueTimes.{Kept, kept-begun, kept-accept, kept-starts, kept-pass, may-pass, due-times-hold}
@@ -33,11 +32,9 @@ ticked-ended l = record { count = length-map l ended; tickets = λ k. same-ticke
 block : ℕ → ℕ → ℕ → Block
 block dueIn first second = record { dueIn = dueIn; ranks = 0 ∷ 0 ∷ []; costs = first ∷ second ∷ [] }
 
-two-costs : (a b : ℕ) → 1 ≤ a → a ≤ maxCost → 1 ≤ b → b ≤ maxCost → (k : ℕ) → 1 ≤ k → k ≤ 2 → (1 ≤ at 0 (a ∷ b ∷ []) k) × (at 0 (a ∷ b ∷ []) k ≤ maxCost)
-two-costs a b p q r s zero low high = absurd (omega arith)
-two-costs a b p q r s (suc zero) low high = (p, q)
-two-costs a b p q r s (suc (suc zero)) low high = (r, s)
-two-costs a b p q r s (suc (suc (suc k))) low high = absurd (omega arith)
+-- a cost in range
+abbrev InRange : ℕ → Type 0
+InRange c = (1 ≤ c) × (c ≤ maxCost)
 
 -- the history after two acceptances, after a tick, after a tick with early ends, and at the end
 h₀ : History
@@ -57,22 +54,17 @@ events =
     ∷ accepting (block 100 1 1) ∷ starting
     ∷ []
 
--- everything computes
-unfoldable everything : ℕ
-unfolding total largest larger all any has only numbered precedes better first entryOf startAt startEach oneLess stationAfter vacate sumOf maximaOf delayBound boundTick onTime dueOf arrival joinedBy joinedLive begun isNone live liveOrders entryDue members entryBound entering joins acceptIn entryView startsIn leaves leaveIn recordOf stateOf passIn ended block h₀ h₁ h₂
-everything = 0
-
 first-may : MayAccept (begun 2) (block 20 2 3)
-unfolding everything
-first-may = record { costs = two-costs 2 3 (omega arith) (omega arith) (omega arith) (omega arith); arrival-on-time = refl; live-on-time = refl }
+unfolding holdsFrom passIn ended block h₀ h₁ h₂
+first-may = record { costs = of-two InRange 2 3 (omega arith) (omega arith); arrival-on-time = refl; live-on-time = refl }
 
 second-may : MayAccept (acceptIn (block 20 2 3) (begun 2)) (block 9 1 2)
-unfolding everything
-second-may = record { costs = two-costs 1 2 (omega arith) (omega arith) (omega arith) (omega arith); arrival-on-time = refl; live-on-time = refl }
+unfolding holdsFrom passIn ended block h₀ h₁ h₂
+second-may = record { costs = of-two InRange 1 2 (omega arith) (omega arith); arrival-on-time = refl; live-on-time = refl }
 
 third-may : MayAccept h₂ (block 100 1 1)
-unfolding everything
-third-may = record { costs = two-costs 1 1 (omega arith) (omega arith) (omega arith) (omega arith); arrival-on-time = refl; live-on-time = refl }
+unfolding holdsFrom passIn ended block h₀ h₁ h₂
+third-may = record { costs = of-two InRange 1 1 (omega arith) (omega arith); arrival-on-time = refl; live-on-time = refl }
 
 kept₀ : Kept h₀
 unfolding h₀
@@ -94,11 +86,11 @@ allowed = record { low = omega arith; high = omega arith; allowed = (first-may, 
 
 -- three orders, none out yet: the first is at station 2 after its early end, and each is in time by the theorem
 pub stations : map (λ (e : Entry). e .station) (reached 2 events .orders) ≡ 2 ∷ 1 ∷ 1 ∷ []
-unfolding everything events
+unfolding holdsFrom passIn ended block h₀ h₁ h₂ events
 stations = refl
 
 pub bounds : map (entryBound (reached 2 events)) (reached 2 events .orders) ≡ 8 ∷ 8 ∷ 10 ∷ []
-unfolding everything events
+unfolding holdsFrom passIn ended block h₀ h₁ h₂ events
 bounds = refl
 
 pub in-time : (e : Entry) → e ∈ reached 2 events .orders → InTime (reached 2 events) e

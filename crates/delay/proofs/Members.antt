@@ -110,11 +110,6 @@ pub sumOf-last : (l : List (List ℕ)) (c : List ℕ) → sumOf (l ++ (c ∷ [])
 unfolding sumOf
 sumOf-last l c = omega (arith, total-append largest l (c ∷ []), total-one largest c)
 
-larger-nil : (xs : List ℕ) → larger xs [] ≡ xs
-unfolding larger
-larger-nil [] = refl
-larger-nil (x ∷ xs) = refl
-
 larger-comm : (xs ys : List ℕ) → larger xs ys ≡ larger ys xs
 unfolding larger
 larger-comm [] [] = refl

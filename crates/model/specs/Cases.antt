@@ -298,12 +298,14 @@ unfolding halves
 record64 ticket due sum station costs =
     fourBytes ticket ++ fourBytes 0 ++ fourBytes due ++ fourBytes sum ++ (station ∷ replicate 11 0) ++ halves costs ++ halves costs ++ replicate 4 0
 
--- "N = 1, 32 orders of cost 1, due-in 60,000; the next gets 10; after one advance it is accepted." The 32 by hand.
+-- "N = 1, 32 orders of cost 1, due-in 60,000; the next gets 10; after one advance it is accepted." The 32 by hand. 9 goes before 10, and 10 before 11.
 unfoldable pub thirtyTwoLive : List Row
 unfolding upward record64
 thirtyTwoLive =
     opens 1 ∷ written 6 (32 ∷ []) ∷ written 12 (33 ∷ []) ∷ written 80 (concat (upward 1 32 (λ t. record64 t 60000 32 1 (1 ∷ []))))
-    ∷ declines (order 60000 0 (1 ∷ [])) 10 ∷ advances 1 1 ∷ accepts (order 60000 0 (1 ∷ [])) 33 33 (pos 59967)
+    ∷ declines (order 60000 0 (1 ∷ [])) 10 ∷ declines (order 1 0 (1 ∷ [])) 10
+    ∷ altered 12 (0 ∷ []) (quoting (order 60000 0 (1 ∷ []))) 9 zeros
+    ∷ advances 1 1 ∷ accepts (order 60000 0 (1 ∷ [])) 33 33 (pos 59967)
     ∷ []
 
 -- N = 8, an order in service at every station, by hand: ticket t at station 9 - t, with one tick to go. All move on at once.

@@ -21,7 +21,7 @@ use Rattle.schedule.specs.Pass.{passTo, AtPass}
 use Rattle.schedule.specs.Accept.{Acceptable, NextAfter, acceptNext}
 use Rattle.schedule.specs.Course.{Step, accepting, advancing, after, AllAcceptable, ReachedValid, duringTicks, Nowhere, OnlyAt, Course, stops, waits, begins, works, leaves, is-out, ServedInFull}
 use Rattle.schedule.proofs.Laws.{same-ticket, same-left, EqCase, LeCase, unique, at-map, at-replicate, leb-cases, eqb-cases}
-use Rattle.schedule.proofs.Starts.{at-start, valid-starts}
+use Rattle.schedule.proofs.Starts.{starts-n, at-start, valid-starts}
 use Rattle.schedule.proofs.Pass.{ticked-plain, plain-pass, from-ticket, pass-from, passes, valid-pass}
 use Rattle.schedule.proofs.Accept.{plain-accept, next-after, Origin, old, new, origin, old-in, new-in, arrival-unserved, valid-accept}
 
@@ -294,10 +294,6 @@ module _ (n t : ℕ) (costs : List ℕ) (paid : (k : ℕ) → 1 ≤ k → k ≤ 
     here : Valid now
     here = valid-starts s valid
 
-    same-n : now .n ≡ n
-    unfolding starts
-    same-n = e
-
     -- what holds after the tick holds after the advance
     onward : (P : State → Type 0) → P (passTo (map oneLess (now .services)) now) → P (advance s)
     onward P p = subst P (sym (advance-is s valid)) p
@@ -312,7 +308,7 @@ module _ (n t : ℕ) (costs : List ℕ) (paid : (k : ℕ) → 1 ≤ k → k ≤ 
         leaves {later = later} (only-at now here t costs k w)
         (elim (leaves-tick now here t costs k w) [
           | inl q ↦ rest .waiting (suc k) (onward (λ (x : State). Waiting x t costs (suc k)) q)
-          | inr q ↦ rest .gone (suc k) (omega (arith, q .0, same-n)) (onward (λ (x : State). Gone x t) (q .1))
+          | inr q ↦ rest .gone (suc k) (omega (arith, q .0, starts-n s)) (onward (λ (x : State). Gone x t) (q .1))
         ])
 
     courses-tick : Courses (now .services ∷ later) s

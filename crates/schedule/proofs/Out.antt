@@ -14,7 +14,7 @@ use Rattle.schedule.specs.Valid.{_∈_, serving, Busy, Valid}
 use Rattle.schedule.specs.Pass.{passTo, moved, AtPass}
 use Rattle.schedule.specs.Out.{Has, OutAsAsked, TicketOutAsAsked}
 use Rattle.schedule.proofs.Laws.{same-ticket, same-left, eqb-cases, unique}
-use Rattle.schedule.proofs.Starts.{valid-starts}
+use Rattle.schedule.proofs.Starts.{starts-n, valid-starts}
 use Rattle.schedule.proofs.Pass.{ticked-plain, moved-ticket, Onward, onward, pass-in, passes}
 use Rattle.schedule.proofs.Course.{advance-is}
 
@@ -31,10 +31,6 @@ module _ (s : State) (valid : Valid s) where
   same-orders : now .orders ≡ s .orders
   unfolding starts
   same-orders = refl
-
-  same-n : now .n ≡ s .n
-  unfolding starts
-  same-n = refl
 
   at-last : AtPass ticked now (s .n)
   at-last = passes ticked now here (ticked-plain (now .services)) .stations (s .n)
@@ -67,14 +63,14 @@ module _ (s : State) (valid : Valid s) where
           let z : at idle ticked (s .n) .ticket ≡ 0 = entry-ticket (s .n) ∙ same-ticket e in
           nobody (out-spent (omega (arith, ticked-plain (now .services) .less (s .n), same-left e)) ∙ z) (λ o m t l. omega (arith, z, valid .fit o m .named))
       go (AtPass.goes-on w h q m) = nobody (out-unspent h) (λ o m t l. omega (arith, h))
-      go (AtPass.ends w z q onward gone) = one w (out-spent z ∙ entry-ticket (s .n) ∙ w .served) (gone (sym same-n))
+      go (AtPass.ends w z q onward gone) = one w (out-spent z ∙ entry-ticket (s .n) ∙ w .served) (gone (sym (starts-n s)))
 
   -- an order whose service at station N does not end is live after the advance
   still : (o : Order) → o ∈ s .orders → (at idle ticked (s .n) .ticket ≡ o .ticket → at idle ticked (s .n) .left ≡ 0 → ⊥) → Has (advance s) (o .ticket)
   unfolding moveTo view
   still o m stays =
       subst (λ (x : State). Has x (o .ticket)) (sym (advance-is s valid))
-      (record { order = moved ticked o; live = pass-in ticked now (subst (λ (l : List Order). o ∈ l) (sym same-orders) m) (omega (arith, within, same-n)); named = moved-ticket ticked o })
+      (record { order = moved ticked o; live = pass-in ticked now (subst (λ (l : List Order). o ∈ l) (sym same-orders) m) (omega (arith, within, starts-n s)); named = moved-ticket ticked o })
     where
       high : o .station ≤ s .n
       high = valid .fit o m .high

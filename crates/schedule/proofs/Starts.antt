@@ -20,6 +20,10 @@ use Rattle.schedule.proofs.Choice.{first-none, first-some}
 views : State → List View
 views s = map view (s .orders)
 
+pub starts-n : (s : State) → starts s .n ≡ s .n
+unfolding starts
+starts-n s = refl
+
 module _ (s : State) (valid : Valid s) where
   -- a busy station's ticket is not 0
   pub busy-named : (k : ℕ) → Busy s k → 1 ≤ serving s k .ticket

@@ -18,7 +18,7 @@ use Rattle.schedule.specs.Pass.{passTo, AtPass}
 use Rattle.schedule.specs.Accept.{acceptNext}
 use Rattle.schedule.specs.Timing.{StartsOnceAccepted, StartsOnceMoved}
 use Rattle.schedule.proofs.Laws.{same-ticket, same-left, unique, at-map}
-use Rattle.schedule.proofs.Starts.{at-start, busy-named, waits-idle, valid-starts}
+use Rattle.schedule.proofs.Starts.{starts-n, at-start, busy-named, waits-idle, valid-starts}
 use Rattle.schedule.proofs.Pass.{ticked-plain, passes}
 use Rattle.schedule.proofs.Accept.{Origin, old, new, origin, new-in}
 use Rattle.schedule.proofs.Course.{valid-accepted, advance-is, valid-advance}
@@ -49,10 +49,6 @@ starts-once-accepted s valid b ok free nobody = (refl, alone (accept s b) (valid
 clock-advance : (s : State) → starts (advance s) .clock ≡ s .clock + 1
 unfolding starts advance leave tick
 clock-advance s = refl
-
-starts-n : (s : State) → starts s .n ≡ s .n
-unfolding starts
-starts-n s = refl
 
 -- with one tick to go before station N, an order is at the next station after the advance
 moves-on : (s : State) → Valid s → (k : ℕ) → k < s .n → (w : Busy (starts s) k) → serving (starts s) k .left ≡ 1 → moveTo (k + 1) (w .order) ∈ advance s .orders
