@@ -1,0 +1,124 @@
+-- `upward`, the list f 0, f 1, .. f (n - 1): what a loop that fills an array from the front keeps, and what a loop that writes rows keeps.
+use mathlib.Core.Path.{_≡_, refl, sym, ap, _∙_}
+use mathlib.Core.List.{List, [], _∷_, _++_, append-assoc, append-nil}
+use mathlib.Core.Logic.{⊎-elim}
+use Prim.Native.Nat.{ℕ, zero, suc, _+_, _*_, _≤_, _<_}
+use native.Mathlib.Nat.{add-zero, zero-add, mul-suc, mul-zero, mul-le-mul-left, eq-or-lt-of-le, le-of-suc-le-suc}
+use native.Mathlib.Numerals.{add-one}
+use native.Mathlib.Omega.{arith}
+use lib.ListN.{length, getD, set, take, drop, length-append, length-drop}
+use lib.Seq.{take-suc, take-suc-set, take-all, drop-cons, drop-at, take-append-le, drop-append-le}
+use Rattle.model.specs.Lists.{upward, concat, part}
+use Rattle.lists.specs.Stored.{Stored}
+use Rattle.lists.proofs.Stores.{stored-none, stored-then}
+
+module _ {A : Type 0} where
+  pub length-upward : (k n : ℕ) (f : ℕ → A) → length (upward k n f) ≡ n
+  unfolding upward
+  length-upward k zero f = refl
+  length-upward k (suc n) f = ap suc (length-upward (suc k) n f)
+
+  -- One more at the end.
+  upward-last : (k n : ℕ) (f : ℕ → A) → upward k (suc n) f ≡ upward k n f ++ (f (k + n) ∷ [])
+  unfolding upward
+  upward-last k zero f = rw (add-zero k)
+  upward-last k (suc n) f =
+      let e : k + suc n ≡ suc k + n = omega arith in
+      rw e (ap (λ (l : List A). f k ∷ l) (upward-last (suc k) n f))
+
+  pub upward-more : (n : ℕ) (f : ℕ → A) → upward 0 (n + 1) f ≡ upward 0 n f ++ (f n ∷ [])
+  upward-more n f = rw add-one (upward-last 0 n f ∙ rw (zero-add n))
+
+  upward-from : (k n : ℕ) (f g : ℕ → A) → ((i : ℕ) → i < k + n → f i ≡ g i) → upward k n f ≡ upward k n g
+  unfolding upward
+  upward-from k zero f g same = refl
+  upward-from k (suc n) f g same = rw (same k (omega arith), upward-from (suc k) n f g (λ i h. same i (omega arith)))
+
+  pub upward-same : (n : ℕ) (f g : ℕ → A) → ((i : ℕ) → i < n → f i ≡ g i) → upward 0 n f ≡ upward 0 n g
+  upward-same n f g same = upward-from 0 n f g (λ i h. same i (omega arith))
+
+  drop-upward : (d : A) (l : List A) (k n : ℕ) → k + n ≡ length l → upward k n (λ i. getD l i d) ≡ drop k l
+  unfolding upward
+  drop-upward d l k zero h = sym (drop-none l k (omega arith))
+    where
+      drop-none : (l : List A) (k : ℕ) → length l ≡ k → drop k l ≡ []
+      drop-none [] zero h = refl
+      drop-none [] (suc k) h = refl
+      drop-none (x ∷ l) zero h = absurd (omega arith)
+      drop-none (x ∷ l) (suc k) h = drop-none l k (omega arith)
+  drop-upward d l k (suc n) h = rw (drop-cons l k d (omega arith), drop-upward d l (suc k) n (omega arith))
+
+  -- A list by its entries.
+  pub upward-list : (d : A) (l : List A) (n : ℕ) → length l ≡ n → upward 0 n (λ i. getD l i d) ≡ l
+  upward-list d l n h = drop-upward d l 0 n (omega arith)
+
+  getD-from : (k n : ℕ) (f : ℕ → A) (i : ℕ) (d : A) → i < n → getD (upward k n f) i d ≡ f (k + i)
+  unfolding upward
+  getD-from k zero f i d h = absurd (omega arith)
+  getD-from k (suc n) f zero d h = rw (add-zero k)
+  getD-from k (suc n) f (suc i) d h =
+      let e : k + suc i ≡ suc k + i = omega arith in
+      rw e (getD-from (suc k) n f i d (omega arith))
+
+  pub getD-upward : (n : ℕ) (f : ℕ → A) (i : ℕ) (d : A) → i < n → getD (upward 0 n f) i d ≡ f i
+  getD-upward n f i d h = getD-from 0 n f i d h ∙ ap f (zero-add i)
+
+  -- An array filled from the front: nothing yet, one more, all of it.
+  pub fill-start : (f : ℕ → A) (l : List A) → take 0 l ≡ upward 0 0 f
+  unfolding upward
+  fill-start f l = refl
+
+  pub fill-next : (f : ℕ → A) (l : List A) (i : ℕ) (v : A) → i < length l → take i l ≡ upward 0 i f → v ≡ f i → take (i + 1) (set l i v) ≡ upward 0 (i + 1) f
+  fill-next f l i v h e q = rw (upward-more i f, ← e, ← q, add-one) (take-suc-set l i v h)
+
+  pub fill-end : (f : ℕ → A) (l : List A) (n : ℕ) → length l ≡ n → take n l ≡ upward 0 n f → l ≡ upward 0 n f
+  fill-end f l n h e = sym (take-all n l (omega arith)) ∙ e
+
+  -- Lists end to end.
+  pub concat-append : (a b : List (List A)) → concat (a ++ b) ≡ concat a ++ concat b
+  unfolding concat
+  concat-append [] b = refl
+  concat-append (x ∷ a) b = rw (concat-append a b, append-assoc)
+
+  pub concat-one : (x : List A) → concat (x ∷ []) ≡ x
+  unfolding concat
+  concat-one x = append-nil x
+
+-- Rows of equal size.
+module _ (f : ℕ → List ℕ) (size : ℕ) (each : (k : ℕ) → length (f k) ≡ size) where
+  rows-from : (k n : ℕ) → length (concat (upward k n f)) ≡ size * n
+  unfolding upward concat
+  rows-from k zero = sym (mul-zero size)
+  rows-from k (suc n) =
+      length-append (f k) (concat (upward (suc k) n f)) ∙ rw (each k, rows-from (suc k) n, mul-suc) (omega arith)
+
+  pub length-rows : (n : ℕ) → length (concat (upward 0 n f)) ≡ size * n
+  length-rows n = rows-from 0 n
+
+  pub rows-none : (l : List ℕ) (i : ℕ) → Stored l i (concat (upward 0 0 f)) l
+  unfolding upward concat
+  rows-none l i = stored-none l i
+
+  -- A store of rows, one row more.
+  pub rows-more : {l m t : List ℕ} {at j i : ℕ} → Stored l at (concat (upward 0 i f)) m → j ≡ at + size * i → Stored m j (f i) t → Stored l at (concat (upward 0 (i + 1) f)) t
+  rows-more {l} {m} {t} {at} {j} {i} p e q =
+      rw (upward-more i f, concat-append (upward 0 i f) (f i ∷ []), concat-one (f i))
+      (stored-then p (e ∙ ap (λ (k : ℕ). at + k) (sym (length-rows i))) q)
+
+  -- The row at place i.
+  pub part-rows : (n i : ℕ) → i < n → part (concat (upward 0 n f)) (size * i) size ≡ f i
+  part-rows zero i h = absurd (omega arith)
+  part-rows (suc n) i h =
+      let rows = concat (upward 0 n f) in
+      let l : length rows ≡ size * n = length-rows n in
+      rw (← add-one, upward-more n f, concat-append (upward 0 n f) (f n ∷ []), concat-one (f n))
+      (⊎-elim
+      (λ e.
+      let g : size * i ≡ length rows = ap (λ (k : ℕ). size * k) e ∙ sym l in
+      rw (g, drop-at rows (f n) (length rows) refl, take-all size (f n) (omega (arith, each n))) (ap f (sym e)))
+      (λ lt.
+      let a : size * suc i ≤ size * n = mul-le-mul-left size lt in
+      let b : size * i + size ≤ length rows = rw l (rw mul-suc at a) in
+      rw (drop-append-le (size * i) rows (f n) (omega arith), take-append-le size (drop (size * i) rows) (f n) (rw length-drop (omega arith)))
+      (part-rows n i lt))
+      (eq-or-lt-of-le (le-of-suc-le-suc h)))

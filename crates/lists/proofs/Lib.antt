@@ -1,0 +1,3 @@
+-- Laws of lists that the code's layers share.
+pub mod Stores
+pub mod Fills

@@ -1,0 +1,2 @@
+-- What code does to a list of bytes.
+pub mod Stored
