@@ -27,23 +27,26 @@ unfoldable pub result : ℕ → Answer → List ℕ → List ℕ → List ℕ �
 result number answer image done reply =
     record { number = number; image = cond (isZero number) done image; reply = cond (eqb number 1) reply (replyBytes number answer) }
 
--- Questions 1 and 2, and 1 to 4.
-unfoldable pub sizeQuestions : List ℕ → List ℕ → List Question
-sizeQuestions image reply = (eqb (length reply) replySize else 1) ∷ (eqb (length image) imageSize else 2) ∷ []
+-- Question 1 is asked of the reply; 2 of the image's length; 2 to 4 of the image.
+unfoldable pub replyQuestion : List ℕ → Question
+replyQuestion reply = eqb (length reply) replySize else 1
 
-unfoldable pub imageQuestions : List ℕ → List ℕ → List Question
-imageQuestions image reply = sizeQuestions image reply ++ ((marked image else 3) ∷ (sound image else 4) ∷ [])
+unfoldable pub lengthQuestion : List ℕ → Question
+lengthQuestion image = eqb (length image) imageSize else 2
+
+unfoldable pub imageQuestions : List ℕ → List Question
+imageQuestions image = lengthQuestion image ∷ (marked image else 3) ∷ (sound image else 4) ∷ []
 
 -- "Open takes 1, 2, 14"; "open gives zeros and a fresh image (clock 0, next ticket 1)".
 unfoldable pub openNumber : List ℕ → ℕ → List ℕ → ℕ
-openNumber image n reply = firstNo (sizeQuestions image reply ++ ((within 1 maxStations n else 14) ∷ []))
+openNumber image n reply = firstNo (replyQuestion reply ∷ lengthQuestion image ∷ (within 1 maxStations n else 14) ∷ [])
 
 unfoldable pub openCall : List ℕ → ℕ → List ℕ → Result
 openCall image n reply = let done = encode (fresh n) in result (openNumber image n reply) zeros image done reply
 
 -- "quote and offer 1 to 12".
 unfoldable pub offerNumber : List ℕ → List ℕ → List ℕ → ℕ
-offerNumber image block reply = firstNo (imageQuestions image reply ++ orderQuestions (decode image) block)
+offerNumber image block reply = firstNo (replyQuestion reply ∷ imageQuestions image ++ orderQuestions (decode image) block)
 
 unfoldable pub offerCall : List ℕ → List ℕ → List ℕ → Result
 offerCall image block reply =
@@ -59,7 +62,7 @@ quoteCall image block reply =
 
 -- "advance 1 to 4, then 13"; "advance gives the ticket out or 0, the new clock, and 0".
 unfoldable pub advanceNumber : List ℕ → List ℕ → ℕ
-advanceNumber image reply = firstNo (imageQuestions image reply ++ ((ltb (decode image .clock) lastTick else 13) ∷ []))
+advanceNumber image reply = firstNo (replyQuestion reply ∷ imageQuestions image ++ ((ltb (decode image .clock) lastTick else 13) ∷ []))
 
 unfoldable pub advanceAnswer : ℕ → State → Answer
 advanceAnswer number s =
