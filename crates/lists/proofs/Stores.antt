@@ -36,6 +36,10 @@ stored-four l i a b c d =
 pub stored-then : {l m n : List ℕ} {i j : ℕ} {vs ws : List ℕ} → Stored l i vs m → j ≡ i + length vs → Stored m j ws n → Stored l i (vs ++ ws) n
 stored-then {l} {m} {n} {i} {j} {vs} {ws} p e q = record { is = q .is ∙ rw (p .is, e) (sets-append l vs ws i) }
 
+-- The same store in other words.
+pub stored-same : {l vs ws m : List ℕ} {i : ℕ} → Stored l i vs m → vs ≡ ws → Stored l i ws m
+stored-same {l} {vs} {ws} {m} {i} p e = record { is = p .is ∙ ap (λ (xs : List ℕ). sets l i xs) e }
+
 -- A store over the whole list.
 pub stored-all : {l vs m : List ℕ} → Stored l 0 vs m → length l ≡ length vs → m ≡ vs
 stored-all {l} {vs} {m} w h =

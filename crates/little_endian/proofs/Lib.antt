@@ -1,0 +1,2 @@
+-- What both directions share.
+pub mod Eight
