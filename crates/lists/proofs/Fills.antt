@@ -1,13 +1,13 @@
 -- `upward`, the list f 0, f 1, .. f (n - 1): what a loop that fills an array from the front keeps, and what a loop that writes rows keeps.
 use mathlib.Core.Path.{_≡_, refl, sym, ap, _∙_}
-use mathlib.Core.List.{List, [], _∷_, _++_, append-assoc, append-nil}
+use mathlib.Core.List.{List, [], _∷_, _++_, map, append-assoc, append-nil}
 use mathlib.Core.Logic.{⊎-elim}
-use Prim.Native.Nat.{ℕ, zero, suc, _+_, _*_, _≤_, _<_}
-use native.Mathlib.Nat.{add-zero, zero-add, mul-suc, mul-zero, mul-le-mul-left, eq-or-lt-of-le, le-of-suc-le-suc}
+use Prim.Native.Nat.{ℕ, zero, suc, _+_, _-_, _*_, _≤_, _<_}
+use native.Mathlib.Nat.{add-zero, zero-add, sub-zero, mul-suc, mul-zero, mul-le-mul-left, eq-or-lt-of-le, le-of-suc-le-suc}
 use native.Mathlib.Numerals.{add-one}
 use native.Mathlib.Omega.{arith}
-use lib.ListN.{length, getD, set, take, drop, length-append, length-drop}
-use lib.Seq.{take-suc, take-suc-set, take-all, drop-cons, drop-at, take-append-le, drop-append-le}
+use lib.ListN.{length, getD, set, take, drop, replicate, length-append, length-drop, length-map}
+use lib.Seq.{take-suc-set, take-all, length-take-le, getD-take, set-at, drop-cons, drop-at, take-append-le, drop-append-le}
 use Rattle.model.specs.Lists.{upward, concat, part}
 use Rattle.lists.specs.Stored.{Stored}
 use Rattle.lists.proofs.Stores.{stored-none, stored-then}
@@ -64,15 +64,25 @@ module _ {A : Type 0} where
   getD-upward n f i d h = getD-from 0 n f i d h ∙ ap f (zero-add i)
 
   -- An array filled from the front: nothing yet, one more, all of it.
-  pub fill-start : (f : ℕ → A) (l : List A) → take 0 l ≡ upward 0 0 f
+  pub fill-start : (f : ℕ → A) → [] ≡ upward 0 0 f
   unfolding upward
-  fill-start f l = refl
+  fill-start f = refl
 
   pub fill-next : (f : ℕ → A) (l : List A) (i : ℕ) (v : A) → i < length l → take i l ≡ upward 0 i f → v ≡ f i → take (i + 1) (set l i v) ≡ upward 0 (i + 1) f
   fill-next f l i v h e q = rw (upward-more i f, ← e, ← q, add-one) (take-suc-set l i v h)
 
   pub fill-end : (f : ℕ → A) (l : List A) (n : ℕ) → length l ≡ n → take n l ≡ upward 0 n f → l ≡ upward 0 n f
   fill-end f l n h e = sym (take-all n l (omega arith)) ∙ e
+
+  -- The same in an array that held one value throughout, of which only a front part is filled.
+  pub pad-start : (f : ℕ → A) (n : ℕ) (e : A) → replicate n e ≡ upward 0 0 f ++ replicate (n - 0) e
+  unfolding upward
+  pad-start f n e = rw (sub-zero n)
+
+  pub pad-next : (f : ℕ → A) (n : ℕ) (e : A) (l : List A) (i : ℕ) (v : A) → i < n → l ≡ upward 0 i f ++ replicate (n - i) e → v ≡ f i → set l i v ≡ upward 0 (i + 1) f ++ replicate (n - (i + 1)) e
+  pad-next f n e l i v h p q =
+      let m : n - i ≡ suc (n - (i + 1)) = omega arith in
+      rw (upward-more i f, p, q, m, append-assoc) (set-at (upward 0 i f) e (replicate (n - (i + 1)) e) (f i) i (length-upward 0 i f))
 
   -- Lists end to end.
   pub concat-append : (a b : List (List A)) → concat (a ++ b) ≡ concat a ++ concat b
@@ -84,6 +94,23 @@ module _ {A : Type 0} where
   unfolding concat
   concat-one x = append-nil x
 
+-- A map by its entries.
+pub map-upward : {A B : Type 0} (f : A → B) (d : A) (l : List A) (n : ℕ) → n ≤ length l → map f (take n l) ≡ upward 0 n (λ i. f (getD l i d))
+map-upward f d l n h =
+    let long : length (map f (take n l)) ≡ n = length-map (take n l) f ∙ length-take-le n l h in
+    sym
+    (upward-same n (λ i. f (getD l i d)) (λ i. getD (map f (take n l)) i (f d)) (λ i g. sym (getD-map f d (take n l) i ∙ ap f (getD-take n l i d g)))
+    ∙ upward-list (f d) (map f (take n l)) n long)
+  where
+    getD-map : {A B : Type 0} (f : A → B) (d : A) (l : List A) (i : ℕ) → getD (map f l) i (f d) ≡ f (getD l i d)
+    getD-map f d [] i = refl
+    getD-map f d (x ∷ l) zero = refl
+    getD-map f d (x ∷ l) (suc i) = getD-map f d l i
+
+-- What is known of an array of structs speaks of its entries' fields: the list is as long.
+pub length-mapped : (A B : Type 0) (f : A → B) (l : List A) (n : ℕ) → length (map f l) ≡ n → length l ≡ n
+length-mapped A B f l n h = sym (length-map l f) ∙ h
+
 -- Rows of equal size.
 module _ (f : ℕ → List ℕ) (size : ℕ) (each : (k : ℕ) → length (f k) ≡ size) where
   rows-from : (k n : ℕ) → length (concat (upward k n f)) ≡ size * n
@@ -94,16 +121,6 @@ module _ (f : ℕ → List ℕ) (size : ℕ) (each : (k : ℕ) → length (f k) 
 
   pub length-rows : (n : ℕ) → length (concat (upward 0 n f)) ≡ size * n
   length-rows n = rows-from 0 n
-
-  pub rows-none : (l : List ℕ) (i : ℕ) → Stored l i (concat (upward 0 0 f)) l
-  unfolding upward concat
-  rows-none l i = stored-none l i
-
-  -- A store of rows, one row more.
-  pub rows-more : {l m t : List ℕ} {at j i : ℕ} → Stored l at (concat (upward 0 i f)) m → j ≡ at + size * i → Stored m j (f i) t → Stored l at (concat (upward 0 (i + 1) f)) t
-  rows-more {l} {m} {t} {at} {j} {i} p e q =
-      rw (upward-more i f, concat-append (upward 0 i f) (f i ∷ []), concat-one (f i))
-      (stored-then p (e ∙ ap (λ (k : ℕ). at + k) (sym (length-rows i))) q)
 
   -- The row at place i.
   pub part-rows : (n i : ℕ) → i < n → part (concat (upward 0 n f)) (size * i) size ≡ f i
@@ -122,3 +139,21 @@ module _ (f : ℕ → List ℕ) (size : ℕ) (each : (k : ℕ) → length (f k) 
       rw (drop-append-le (size * i) rows (f n) (omega arith), take-append-le size (drop (size * i) rows) (f n) (rw length-drop (omega arith)))
       (part-rows n i lt))
       (eq-or-lt-of-le (le-of-suc-le-suc h)))
+
+-- Rows of equal size stored one after the other: m is l with the first i rows from place at on.
+pub record Rows (f : ℕ → List ℕ) (size : ℕ) (l : List ℕ) (at i : ℕ) (m : List ℕ) : Type 0 where
+  pub stored : Stored l at (concat (upward 0 i f)) m
+  pub long : length (concat (upward 0 i f)) ≡ size * i
+
+pub rows-none : (f : ℕ → List ℕ) (size : ℕ) (l : List ℕ) (at : ℕ) → Rows f size l at 0 l
+unfolding upward concat
+rows-none f size l at = record { stored = stored-none l at; long = sym (mul-zero size) }
+
+pub rows-more : {f : ℕ → List ℕ} {size : ℕ} {l m t : List ℕ} {at j i : ℕ} → Rows f size l at i m → j ≡ at + size * i → Stored m j (f i) t → length (f i) ≡ size → Rows f size l at (i + 1) t
+rows-more {f} {size} {l} {m} {t} {at} {j} {i} p e q h =
+    let more : concat (upward 0 (i + 1) f) ≡ concat (upward 0 i f) ++ f i =
+    rw (upward-more i f, concat-append (upward 0 i f) (f i ∷ []), concat-one (f i)) in
+    record {
+      stored = rw more (stored-then (p .stored) (rw (p .long) e) q);
+      long = rw (more, length-append, p .long, h, add-one, mul-suc) (omega arith);
+    }

@@ -1,0 +1,2 @@
+-- What decode and encode share.
+pub mod Rows

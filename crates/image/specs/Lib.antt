@@ -1,0 +1,2 @@
+-- The state that code carries, beside the definitions' own.
+pub mod Pipeline

@@ -1,0 +1,135 @@
+// The image that says a state: every byte of it.
+ghost use mathlib.Core.Path.{_≡_};
+ghost use mathlib.Core.List.{[], _∷_, _++_, map};
+ghost use Prim.Native.Nat.{_+_, _-_, _*_, _≤_};
+ghost use lib.ListN.{length, take, replicate};
+ghost use Rattle.model.specs.Lists.{concat};
+ghost use Rattle.model.specs.Limits.{maxLive};
+ghost use Rattle.model.specs.Bytes.{twoBytes, fourBytes};
+ghost use Rattle.model.specs.Layout.{imageSize, servicesAt, serviceSize, recordsAt, recordSize, mark, version};
+ghost use Rattle.model.specs.Image.{serviceBytes, orderBytes};
+ghost use Rattle.model.specs.Image as says;
+ghost use Rattle.lists.specs.Stored.{Stored};
+ghost use Rattle.image.specs.Pipeline.{listed};
+use super::Pipeline;
+use super::layout::ACCEPTED_AT;
+use super::layout::CLOCK_AT;
+use super::layout::COSTS_AT;
+use super::layout::DUE_AT;
+use super::layout::LEFT_AT;
+use super::layout::MAXIMA_AT;
+use super::layout::NEXT_AT;
+use super::layout::RANKS_AT;
+use super::layout::RECORD_SIZE;
+use super::layout::RECORD_ZERO_AT;
+use super::layout::RECORDS_AT;
+use super::layout::SERVICE_SIZE;
+use super::layout::SERVICE_ZERO_AT;
+use super::layout::SERVICES_AT;
+use super::layout::STATION_AT;
+use super::layout::SUM_AT;
+use little_endian::write::put_eight_bytes;
+use little_endian::write::put_eight_halves;
+use little_endian::write::put_four;
+use little_endian::write::put_u16;
+use little_endian::write::put_u32;
+use model::Order;
+use model::Service;
+
+// The mark `WMC`, version 1, the counts, a zero byte, clock and next ticket.
+fn put_header(image: &mut [u8], n: u8, live: u8, clock: u32, next: u32)
+    requires { ⌜ length (now image) ≡ imageSize ⌝ }
+    ensures { λ _. ⌜ Stored (now (image .entry)) 0 (mark ++ twoBytes version ++ (n ∷ live ∷ 0 ∷ []) ++ fourBytes clock ++ fourBytes next) (now (image .exit)) ⌝ }
+{
+    put_four(image, 0, 87, 77, 67, 1);
+    put_four(image, 4, 0, n, live, 0);
+    put_u32(image, CLOCK_AT, clock);
+    put_u32(image, NEXT_AT, next);
+}
+
+fn put_service(image: &mut [u8], at: usize, e: Service)
+    requires { ⌜ at + serviceSize ≤ length (now image) ⌝ }
+    ensures { λ _. ⌜ Stored (now (image .entry)) at (serviceBytes e) (now (image .exit)) ⌝ }
+{
+    put_u32(image, at, e.ticket);
+    put_u16(image, at + LEFT_AT, e.left);
+    put_u16(image, at + SERVICE_ZERO_AT, 0);
+}
+
+fn put_services(image: &mut [u8], p: Pipeline)
+    requires { ⌜ length (now image) ≡ imageSize ⌝ }
+    ensures { λ _. ⌜ Stored (now (image .entry)) servicesAt (concat (map serviceBytes (p .services))) (now (image .exit)) × (length (concat (map serviceBytes (p .services))) ≡ 64) ⌝ }
+{
+    let mut i: usize = 0;
+    while i < 8 {
+        let e = p.services[i];
+        put_service(image, SERVICES_AT + SERVICE_SIZE * i, e);
+        i += 1;
+    }
+}
+
+fn put_order_head(image: &mut [u8], at: usize, o: Order)
+    requires { ⌜ at + 20 ≤ length (now image) ⌝ }
+    ensures { λ _. ⌜ Stored (now (image .entry)) at (fourBytes (o .ticket) ++ fourBytes (o .accepted) ++ fourBytes (o .due) ++ fourBytes (o .sum) ++ (o .station ∷ 0 ∷ 0 ∷ 0 ∷ [])) (now (image .exit)) ⌝ }
+{
+    put_u32(image, at, o.ticket);
+    put_u32(image, at + ACCEPTED_AT, o.accepted);
+    put_u32(image, at + DUE_AT, o.due);
+    put_u32(image, at + SUM_AT, o.sum);
+    put_four(image, at + STATION_AT, o.station, 0, 0, 0);
+}
+
+fn put_order(image: &mut [u8], at: usize, o: Order)
+    requires { ⌜ at + recordSize ≤ length (now image) ⌝ }
+    ensures { λ _. ⌜ Stored (now (image .entry)) at (orderBytes o) (now (image .exit)) × (length (orderBytes o) ≡ recordSize) ⌝ }
+{
+    let ranks = o.ranks;
+    let costs = o.costs;
+    let maxima = o.maxima;
+    put_order_head(image, at, o);
+    put_eight_bytes(image, at + RANKS_AT, ranks);
+    put_eight_halves(image, at + COSTS_AT, costs);
+    put_eight_halves(image, at + MAXIMA_AT, maxima);
+    put_u32(image, at + RECORD_ZERO_AT, 0);
+}
+
+fn put_orders(image: &mut [u8], p: Pipeline, live: usize)
+    requires { ⌜ (length (now image) ≡ imageSize) × (live ≤ maxLive) ⌝ }
+    ensures { λ _. ⌜ Stored (now (image .entry)) recordsAt (concat (map orderBytes (take live (p .orders)))) (now (image .exit)) × (length (concat (map orderBytes (take live (p .orders)))) ≡ recordSize * live) ⌝ }
+{
+    let mut i: usize = 0;
+    while i < live {
+        let o = p.orders[i];
+        put_order(image, RECORDS_AT + RECORD_SIZE * i, o);
+        i += 1;
+    }
+}
+
+fn put_zeros(out: &mut [u8], from: usize)
+    requires { ⌜ from ≤ length (now out) ⌝ }
+    ensures { λ _. ⌜ Stored (now (out .entry)) from (replicate (length (now (out .entry)) - from) 0) (now (out .exit)) ⌝ }
+{
+    let mut i = from;
+    while i < out.len() {
+        out[i] = 0;
+        i += 1;
+    }
+}
+
+fn wide(x: u8) -> usize
+    ensures { λ r. ⌜ r ≡ x ⌝ }
+{
+    x as usize
+}
+
+// Neither an image with a byte of the old one left beyond the live records, nor one with another state's clock, meets the promise.
+pub fn encode(image: &mut [u8], p: Pipeline)
+    requires { ⌜ (length (now image) ≡ imageSize) × (p .live ≤ maxLive) ⌝ }
+    ensures { λ _. ⌜ now (image .exit) ≡ says.encode (listed p) ⌝ }
+{
+    let live = wide(p.live);
+    put_header(image, p.n, p.live, p.clock, p.next);
+    put_services(image, p);
+    put_orders(image, p, live);
+    put_zeros(image, RECORDS_AT + RECORD_SIZE * live);
+}

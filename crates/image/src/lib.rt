@@ -1,0 +1,17 @@
+// The image and the pipeline's state: bytes to state by value, and back.
+pub mod layout; // layout.rt: the place of every field
+pub mod decode; // decode.rt: what an image says
+pub mod encode; // encode.rt: the image that says it
+
+use model::Order;
+use model::Service;
+
+// The state that code carries: as the definitions have it, with room for 32 records, of which the first `live` are in use.
+pub struct Pipeline {
+    pub n: u8,
+    pub live: u8,
+    pub clock: u32,
+    pub next: u32,
+    pub services: [Service; 8],
+    pub orders: [Order; 32],
+}
