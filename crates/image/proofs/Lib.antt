@@ -1,2 +1,3 @@
 -- What decode and encode share.
 pub mod Rows
+pub mod TwoForms

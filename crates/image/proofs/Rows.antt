@@ -1,9 +1,9 @@
 -- How long the rows of an image are; decode and encode in the words of the code's own state.
-use mathlib.Core.Path.{_≡_, refl}
+use mathlib.Core.Path.{_≡_, refl, ap}
 use mathlib.Core.List.{List, [], _∷_, _++_, map}
-use Prim.Native.Nat.{ℕ, _+_, _-_, _*_, _≤_}
+use Prim.Native.Nat.{ℕ, _+_, _-_, _*_, _≤_, _<_}
 use native.Mathlib.Omega.{arith}
-use lib.ListN.{length, take, replicate, length-append, length-replicate}
+use lib.ListN.{length, set, take, replicate, length-append, length-replicate}
 use lib.Seq.{length-take-le}
 use Rattle.model.specs.Limits.{maxStations, maxLive}
 use Rattle.model.specs.Lists.{upward, concat}
@@ -12,7 +12,7 @@ use Rattle.model.specs.Layout.{imageSize, mark, version, stationCountAt, clockA
 use Rattle.model.specs.Image.{liveCount, serviceOf, orderOf, serviceBytes, orderBytes, decode, encode}
 use Rattle.lists.specs.Stored.{Stored}
 use Rattle.lists.proofs.Stores.{stored-then, stored-all}
-use Rattle.lists.proofs.Fills.{length-upward}
+use Rattle.lists.proofs.Fills.{length-upward, pad-next}
 use Rattle.image.specs.declared.Pipeline.{Pipeline}
 use Rattle.image.specs.Pipeline.{unused, padded, listed}
 use Rattle.model.specs.declared.Order.{Order}
@@ -35,16 +35,41 @@ pub length-order : (o : Order) → length (o .ranks) ≡ 8 → length (o .costs)
 unfolding orderBytes
 length-order o r s t = simp length-append (omega (arith, length-halves (o .costs), length-halves (o .maxima)))
 
-pub decoded-is : (image : List ℕ) → padded (decode image) ≡ record {
-  n = byte image stationCountAt;
-  live = liveCount image;
-  clock = word image clockAt;
-  next = word image nextAt;
-  services = upward 0 maxStations (λ i. serviceOf (servicePart image i));
-  orders = upward 0 (liveCount image) (λ i. orderOf (recordPart image i)) ++ replicate (maxLive - liveCount image) unused;
-}
+-- The state with the first i records read.
+abbrev pub filled : List ℕ → ℕ → Pipeline
+filled image i =
+    record {
+      n = byte image stationCountAt;
+      live = liveCount image;
+      clock = word image clockAt;
+      next = word image nextAt;
+      services = upward 0 maxStations (λ k. serviceOf (servicePart image k));
+      orders = upward 0 i (λ k. orderOf (recordPart image k)) ++ replicate (maxLive - i) unused;
+    }
+
+with-orders : List ℕ → List Order → Pipeline
+with-orders image orders =
+    record {
+      n = byte image stationCountAt;
+      live = liveCount image;
+      clock = word image clockAt;
+      next = word image nextAt;
+      services = upward 0 maxStations (λ k. serviceOf (servicePart image k));
+      orders = orders;
+    }
+
+pub filled-none : (image : List ℕ) (services : List Service) (clock next : ℕ) → services ≡ upward 0 maxStations (λ k. serviceOf (servicePart image k)) → clock ≡ word image clockAt → next ≡ word image nextAt → record { n = byte image stationCountAt; live = liveCount image; clock = clock; next = next; services = services; orders = replicate maxLive unused } ≡ filled image 0
+unfolding upward
+filled-none image services clock next e f g = rw (e, f, g)
+
+pub filled-next : (image : List ℕ) (i : ℕ) (p : Pipeline) (v : Order) → i < maxLive → p ≡ filled image i → v ≡ orderOf (recordPart image i) → record { n = p .n; live = p .live; clock = p .clock; next = p .next; services = p .services; orders = set (p .orders) i v } ≡ filled image (i + 1)
+unfolding with-orders
+filled-next image i p v h e q =
+    rw e (ap (with-orders image) (pad-next (λ k. orderOf (recordPart image k)) maxLive unused _ i v h refl q))
+
+pub filled-all : (image : List ℕ) → filled image (liveCount image) ≡ padded (decode image)
 unfolding padded decode
-decoded-is image = rw (length-upward 0 (liveCount image) (λ i. orderOf (recordPart image i)))
+filled-all image = rw (length-upward 0 (liveCount image) (λ i. orderOf (recordPart image i)))
 
 -- The records beyond the live ones.
 pub unused-count : (n live : ℕ) → n ≡ imageSize → n - (80 + 64 * live) ≡ 64 * (32 - live)

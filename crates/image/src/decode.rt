@@ -58,7 +58,7 @@ fn order_of(part: &[u8]) -> Order
         accepted: u32_at(part, ACCEPTED_AT),
         due: u32_at(part, DUE_AT),
         sum: u32_at(part, SUM_AT),
-        station: part[STATION_AT],
+        station: wide32(part[STATION_AT]),
         ranks: ranks,
         costs: costs,
         maxima: maxima,
@@ -83,25 +83,16 @@ pub fn order_at(image: &[u8], i: usize) -> Order
     order_of(&image[at..at + RECORD_SIZE])
 }
 
+fn wide32(x: u8) -> u32
+    ensures { λ r. ⌜ r ≡ x ⌝ }
+{
+    x as u32
+}
+
 fn wide(x: u8) -> usize
     ensures { λ r. ⌜ r ≡ x ⌝ }
 {
     x as usize
-}
-
-fn unused() -> Order
-    ensures { λ r. ⌜ r ≡ unusedOrder ⌝ }
-{
-    Order {
-        ticket: 0,
-        accepted: 0,
-        due: 0,
-        sum: 0,
-        station: 0,
-        ranks: [0; 8],
-        costs: [0; 8],
-        maxima: [0; 8],
-    }
 }
 
 pub fn services_of(image: &[u8]) -> [Service; 8]
@@ -117,34 +108,34 @@ pub fn services_of(image: &[u8]) -> [Service; 8]
     services
 }
 
-fn orders_of(image: &[u8]) -> [Order; 32]
-    requires { ⌜ Readable (now image) ⌝ }
-    ensures { λ r. ⌜ r ≡ upward 0 (liveCount (now (image .entry))) (λ i. orderOf (recordPart (now (image .entry)) i)) ++ replicate (maxLive - liveCount (now (image .entry))) unusedOrder ⌝ }
-{
-    let blank = unused();
-    let live = wide(image[LIVE_COUNT_AT]);
-    let mut orders = [blank; 32];
-    let mut i: usize = 0;
-    while i < live {
-        orders[i] = order_at(image, i);
-        i += 1;
-    }
-    orders
-}
-
 // Neither a state with the records beyond the live ones read, nor one with the clock and the next ticket exchanged, meets the promise.
 pub fn decode(image: &[u8]) -> Pipeline
     requires { ⌜ Readable (now image) ⌝ }
     ensures { λ r. ⌜ r ≡ padded (says.decode (now (image .entry))) ⌝ }
 {
     let services = services_of(image);
-    let orders = orders_of(image);
-    Pipeline {
+    let live = wide(image[LIVE_COUNT_AT]);
+    let mut p = Pipeline {
         n: image[STATION_COUNT_AT],
         live: image[LIVE_COUNT_AT],
         clock: u32_at(image, CLOCK_AT),
         next: u32_at(image, NEXT_AT),
         services: services,
-        orders: orders,
+        orders: [Order {
+            ticket: 0,
+            accepted: 0,
+            due: 0,
+            sum: 0,
+            station: 0,
+            ranks: [0; 8],
+            costs: [0; 8],
+            maxima: [0; 8],
+        }; 32],
+    };
+    let mut i: usize = 0;
+    while i < live {
+        p.orders[i] = order_at(image, i);
+        i += 1;
     }
+    p
 }

@@ -5,7 +5,7 @@ ghost use Prim.Native.Nat.{_+_, _-_, _*_, _≤_};
 ghost use lib.ListN.{length, take, replicate};
 ghost use Rattle.model.specs.Lists.{concat};
 ghost use Rattle.model.specs.Limits.{maxLive};
-ghost use Rattle.model.specs.Bytes.{twoBytes, fourBytes};
+ghost use Rattle.model.specs.Bytes.{oneByte, twoBytes, fourBytes};
 ghost use Rattle.model.specs.Layout.{imageSize, servicesAt, serviceSize, recordsAt, recordSize, mark, version};
 ghost use Rattle.model.specs.Image.{serviceBytes, orderBytes};
 ghost use Rattle.model.specs.Image as says;
@@ -56,13 +56,13 @@ fn put_service(image: &mut [u8], at: usize, e: Service)
     put_u16(image, at + SERVICE_ZERO_AT, 0);
 }
 
-fn put_services(image: &mut [u8], p: Pipeline)
+fn put_services(image: &mut [u8], services: [Service; 8])
     requires { ⌜ length (now image) ≡ imageSize ⌝ }
-    ensures { λ _. ⌜ Stored (now (image .entry)) servicesAt (concat (map serviceBytes (p .services))) (now (image .exit)) × (length (concat (map serviceBytes (p .services))) ≡ 64) ⌝ }
+    ensures { λ _. ⌜ Stored (now (image .entry)) servicesAt (concat (map serviceBytes services)) (now (image .exit)) × (length (concat (map serviceBytes services)) ≡ 64) ⌝ }
 {
     let mut i: usize = 0;
     while i < 8 {
-        let e = p.services[i];
+        let e = services[i];
         put_service(image, SERVICES_AT + SERVICE_SIZE * i, e);
         i += 1;
     }
@@ -70,13 +70,13 @@ fn put_services(image: &mut [u8], p: Pipeline)
 
 fn put_order_head(image: &mut [u8], at: usize, o: Order)
     requires { ⌜ at + 20 ≤ length (now image) ⌝ }
-    ensures { λ _. ⌜ Stored (now (image .entry)) at (fourBytes (o .ticket) ++ fourBytes (o .accepted) ++ fourBytes (o .due) ++ fourBytes (o .sum) ++ (o .station ∷ 0 ∷ 0 ∷ 0 ∷ [])) (now (image .exit)) ⌝ }
+    ensures { λ _. ⌜ Stored (now (image .entry)) at (fourBytes (o .ticket) ++ fourBytes (o .accepted) ++ fourBytes (o .due) ++ fourBytes (o .sum) ++ oneByte (o .station) ++ (0 ∷ 0 ∷ 0 ∷ [])) (now (image .exit)) ⌝ }
 {
     put_u32(image, at, o.ticket);
     put_u32(image, at + ACCEPTED_AT, o.accepted);
     put_u32(image, at + DUE_AT, o.due);
     put_u32(image, at + SUM_AT, o.sum);
-    put_four(image, at + STATION_AT, o.station, 0, 0, 0);
+    put_four(image, at + STATION_AT, (o.station % 256) as u8, 0, 0, 0);
 }
 
 fn put_order(image: &mut [u8], at: usize, o: Order)
@@ -93,13 +93,13 @@ fn put_order(image: &mut [u8], at: usize, o: Order)
     put_u32(image, at + RECORD_ZERO_AT, 0);
 }
 
-fn put_orders(image: &mut [u8], p: Pipeline, live: usize)
+fn put_orders(image: &mut [u8], orders: [Order; 32], live: usize)
     requires { ⌜ (length (now image) ≡ imageSize) × (live ≤ maxLive) ⌝ }
-    ensures { λ _. ⌜ Stored (now (image .entry)) recordsAt (concat (map orderBytes (take live (p .orders)))) (now (image .exit)) × (length (concat (map orderBytes (take live (p .orders)))) ≡ recordSize * live) ⌝ }
+    ensures { λ _. ⌜ Stored (now (image .entry)) recordsAt (concat (map orderBytes (take live orders))) (now (image .exit)) × (length (concat (map orderBytes (take live orders))) ≡ recordSize * live) ⌝ }
 {
     let mut i: usize = 0;
     while i < live {
-        let o = p.orders[i];
+        let o = orders[i];
         put_order(image, RECORDS_AT + RECORD_SIZE * i, o);
         i += 1;
     }
@@ -128,8 +128,10 @@ pub fn encode(image: &mut [u8], p: Pipeline)
     ensures { λ _. ⌜ now (image .exit) ≡ says.encode (listed p) ⌝ }
 {
     let live = wide(p.live);
+    let services = p.services;
+    let orders = p.orders;
     put_header(image, p.n, p.live, p.clock, p.next);
-    put_services(image, p);
-    put_orders(image, p, live);
+    put_services(image, services);
+    put_orders(image, orders, live);
     put_zeros(image, RECORDS_AT + RECORD_SIZE * live);
 }

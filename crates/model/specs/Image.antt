@@ -8,7 +8,7 @@ use Rattle.model.specs.declared.Order.{Order}
 use Rattle.model.specs.declared.Service.{Service}
 use Rattle.model.specs.Limits.{maxStations, maxLive}
 use Rattle.model.specs.Lists.{same, concat, upward}
-use Rattle.model.specs.Bytes.{byte, half, word, eightBytes, eightHalves, twoBytes, fourBytes}
+use Rattle.model.specs.Bytes.{byte, half, word, eightBytes, eightHalves, oneByte, twoBytes, fourBytes}
 use Rattle.model.specs.State.{State}
 use Rattle.model.specs.Layout.{mark, version, versionAt, stationCountAt, liveCountAt, clockAt, nextAt, servedAt, leftAt, recordSize, ticketAt, acceptedAt, dueAt, sumAt, stationAt, ranksAt, costsAt, maximaAt, servicePart, recordPart}
 
@@ -43,7 +43,7 @@ orderOf s =
 unfoldable pub orderBytes : Order → List ℕ
 orderBytes o =
     fourBytes (o .ticket) ++ fourBytes (o .accepted) ++ fourBytes (o .due) ++ fourBytes (o .sum)
-    ++ (o .station ∷ 0 ∷ 0 ∷ 0 ∷ [])
+    ++ oneByte (o .station) ++ (0 ∷ 0 ∷ 0 ∷ [])
     ++ o .ranks ++ concat (map twoBytes (o .costs)) ++ concat (map twoBytes (o .maxima))
     ++ (0 ∷ 0 ∷ 0 ∷ 0 ∷ [])
 

@@ -6,14 +6,14 @@ pub struct Service {
     pub left: u16,
 }
 
-// The record of a live order. `sum` and `maxima` are over its interference set (document 01: company): the members'
+// The record of a live order. The station has four bytes so that no byte of an `Order` is padding, and an array of unused ones is a fill. `sum` and `maxima` are over its interference set (document 01: company): the members'
 // largest costs added up, and the largest cost that a member has at each station.
 pub struct Order {
     pub ticket: u32,
     pub accepted: u32,
     pub due: u32,
     pub sum: u32,
-    pub station: u8,
+    pub station: u32,
     pub ranks: [u8; 8],
     pub costs: [u16; 8],
     pub maxima: [u16; 8],

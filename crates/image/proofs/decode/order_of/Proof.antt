@@ -25,8 +25,11 @@ u32-at-requires-3 c κs = search needs
 u32-at-requires-4 : tie.Need-u32-at-requires-4
 u32-at-requires-4 c κs = search needs
 
-shared-slice-read-t10 : tie.Need-shared-slice-read-t10
-shared-slice-read-t10 c = search needs
+shared-slice-read-wide32 : tie.Need-shared-slice-read-wide32
+shared-slice-read-wide32 c = search needs
+
+wide32-requires : tie.Need-wide32-requires
+wide32-requires c κs = search needs
 
 returns : tie.Need-returns
 unfolding orderOf
@@ -43,5 +46,6 @@ order-of-spec =
     u32-at-requires-2
     u32-at-requires-3
     u32-at-requires-4
-    shared-slice-read-t10
+    shared-slice-read-wide32
+    wide32-requires
     returns)

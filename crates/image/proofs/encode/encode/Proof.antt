@@ -1,13 +1,10 @@
-use mathlib.Core.Path.{ap}
-use lib.ListN.{replicate}
-use Prim.Native.Nat.{ℕ}
-use Rattle.lists.proofs.Fills.{length-mapped}
 -- Four stores, one after the other, that fill the image.
-use mathlib.Core.Path.{_≡_}
-use Prim.Native.Nat.{_-_}
+use mathlib.Core.Path.{_≡_, ap}
+use Prim.Native.Nat.{ℕ}
 use native.Mathlib.Omega.{arith}
-use lib.ListN.{length}
+use lib.ListN.{length, replicate}
 use Rattle.lists.proofs.Stores.{stored-same}
+use Rattle.lists.proofs.Fills.{length-mapped}
 use Rattle.image.proofs.Rows.{unused-count, encoded}
 use borrow.Author.Needs.{needs}
 use Rattle.image.proofs.encode.encode.Statement.{statement}
@@ -46,9 +43,9 @@ returns c =
     let k3 = k4 .before .before .before .before in
     let k2 = k3 .before .before .before .before in
     let k1 = k2 .before .before .before .before in
-    let top = k1 .before .before .before .before in
+    let top = k1 .before .before .before .before .before .before in
     let p = top .args .p in
-    let live = k1 .before .before .wide .ensures in
+    let live = k1 .before .before .before .before .wide .ensures in
     let orders = rw live at (k3 .put-orders .ensures) in
     let zeros = rw live at (k4 .put-zeros .ensures) in
     encoded p (top .pre .1) (orders-long top) (top .pre .0) (k1 .put-header .ensures) (k2 .put-services .ensures .0) (k2 .put-services .ensures .1) (orders .0) (orders .1)

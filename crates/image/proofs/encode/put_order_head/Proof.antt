@@ -29,6 +29,9 @@ put-u32-requires-4 c κs = search needs
 add-put-four : tie.Need-add-put-four
 add-put-four c = search needs
 
+cast-put-four : tie.Need-cast-put-four
+cast-put-four c = search needs
+
 put-four-requires : tie.Need-put-four-requires
 put-four-requires c κs = search needs
 
@@ -38,7 +41,7 @@ same-length c = search needs
 returns : tie.Need-returns
 returns c =
     let k5 = c .before .before in
-    let k4 = k5 .before .before .before .before in
+    let k4 = k5 .before .before .before .before .before in
     let k3 = k4 .before .before .before .before in
     let k2 = k3 .before .before .before .before in
     let k1 = k2 .before .before .before .before in
@@ -56,6 +59,7 @@ put-order-head-spec =
     add-put-u32-3
     put-u32-requires-4
     add-put-four
+    cast-put-four
     put-four-requires
     same-length
     returns)

@@ -1,6 +1,3 @@
-use lib.Seq.{take-all}
-use Rattle.image.proofs.Rows.{length-service}
-use Rattle.model.specs.State.{idle}
 -- The entries so far are one store of rows.
 use borrow.Author.Needs.{needs}
 use mathlib.Core.Path.{_≡_, refl, sym, ap, _∙_}
@@ -11,15 +8,18 @@ use mathlib.Core.List.{map}
 use Rattle.model.specs.Lists.{concat}
 use Rattle.model.specs.Image.{serviceBytes}
 use Rattle.lists.proofs.Stores.{stored-same}
-use Rattle.lists.proofs.Fills.{Rows, rows-none, rows-more, map-upward, length-mapped}
+use Rattle.lists.proofs.Fills.{Rows, rows-none, rows-more, map-upward}
+use Rattle.image.proofs.Rows.{length-service}
+use Rattle.model.specs.State.{idle}
+use lib.Seq.{take-all}
 use Rattle.image.proofs.encode.put_services.Statement.{statement}
 use Rattle.image.proofs.encode.put_services.Tie as tie
 
 abbrev Inv-loop : tie.InvT-loop
-Inv-loop image₀ p i₀ image i = (i ≤ 8) × (length image ≡ 2128) × Rows (λ k. serviceBytes (getD (p .services) k idle)) 8 image₀ 16 i image
+Inv-loop image₀ services i₀ image i = (i ≤ 8) × (length image ≡ 2128) × Rows (λ k. serviceBytes (getD services k idle)) 8 image₀ 16 i image
 
 abbrev μ-loop : tie.MeasureT-loop
-μ-loop image₀ p i₀ image i = 8 - i
+μ-loop image₀ services i₀ image i = 8 - i
 
 loop-holds : tie.Need-loop-holds Inv-loop μ-loop
 loop-holds c = (omega arith, search needs, rows-none _ _ _ _)
@@ -27,8 +27,8 @@ loop-holds c = (omega arith, search needs, rows-none _ _ _ _)
 mul-e : tie.Need-mul-e Inv-loop μ-loop
 mul-e c = omega arith
 
-element-copy-out-e : tie.Need-element-copy-out-e Inv-loop μ-loop
-element-copy-out-e c = omega arith
+array-copy-out-e : tie.Need-array-copy-out-e Inv-loop μ-loop
+array-copy-out-e c = search needs
 
 mul-put-service : tie.Need-mul-put-service Inv-loop μ-loop
 mul-put-service c = omega arith
@@ -54,18 +54,14 @@ loop-again c =
 same-length : tie.Need-same-length Inv-loop μ-loop
 same-length c = search needs
 
-services-long : (c : tie.Start Inv-loop μ-loop) → length (c .args .t2 .services) ≡ 8
-services-long c = search (needs, length-mapped)
-
 returns : tie.Need-returns Inv-loop μ-loop
 returns c =
     let inv = c .before .loop .inv in
-    let services = c .before .before .before .args .t2 .services in
-    let long = services-long (c .before .before .before) in
+    let services = c .before .before .before .args .t2 in
+    let long : length services ≡ 8 = search needs in
     let e : c .before .loop .i ≡ 8 = omega arith in
-    let all = map-upward serviceBytes idle services 8 (omega arith) in
     let rows = rw e at (inv .2) in
-    let same = ap concat (sym all ∙ ap (map serviceBytes) (take-all 8 services (omega arith))) in
+    let same = ap concat (sym (map-upward serviceBytes idle services 8 (omega arith)) ∙ ap (map serviceBytes) (take-all 8 services (omega arith))) in
     (stored-same (rows .stored) same, sym (ap length same) ∙ rows .long)
 
 pub put-services-spec : {M : Type 1} → statement M
@@ -76,7 +72,7 @@ put-services-spec =
     μ-loop
     loop-holds
     mul-e
-    element-copy-out-e
+    array-copy-out-e
     mul-put-service
     add-put-service
     put-service-requires

@@ -1,0 +1,2 @@
+-- Laws of the probes' definitions.
+pub mod RecodeLaws

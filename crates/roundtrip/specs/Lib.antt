@@ -1,0 +1,5 @@
+-- An image and the state that it says.
+pub mod InRange
+pub mod RoundTrip
+pub mod SoundFacts
+pub mod Fresh
