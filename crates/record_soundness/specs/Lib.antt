@@ -1,0 +1,2 @@
+-- One record's clauses, together.
+pub mod Record
