@@ -1,3 +1,4 @@
 -- Laws of lists that the code's layers share.
 pub mod Stores
 pub mod Fills
+pub mod Tests

@@ -1,12 +1,12 @@
-use Rattle.image.specs.declared.Pipeline.{Pipeline}
-use Rattle.probe.proofs.RecodeLaws.{recode-length, recode-live, recode-done}
-use Rattle.image.specs.Pipeline.{listed}
 -- The number first; then decode and encode say the rest.
 use mathlib.Core.Path.{refl, ap, _∙_}
 use native.Mathlib.Omega.{arith}
+use borrow.Author.Needs.{needs}
+use Rattle.image.specs.declared.Pipeline.{Pipeline}
+use Rattle.probe.proofs.RecodeLaws.{recode-length, recode-live, recode-done}
+use Rattle.image.specs.Pipeline.{listed}
 use Rattle.model.specs.Image.{encode}
 use Rattle.image.proofs.TwoForms.{listed-padded, live-decoded}
-use borrow.Author.Needs.{needs}
 use Rattle.probe.proofs.probe_recode.Statement.{statement}
 use Rattle.probe.proofs.probe_recode.Tie as tie
 

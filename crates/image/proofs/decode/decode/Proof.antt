@@ -1,11 +1,10 @@
-use Rattle.model.specs.Image.{liveCount}
 -- The header first, then an array of unused records filled from the front.
-use borrow.Author.Needs.{needs}
 use mathlib.Core.Path.{_≡_, _∙_}
 use Prim.Native.Nat.{_≤_, _-_}
 use native.Mathlib.Omega.{arith}
+use borrow.Author.Needs.{needs}
+use Rattle.model.specs.Image.{liveCount}
 use Rattle.image.proofs.Rows.{filled, filled-none, filled-next, filled-all}
-use Rattle.image.specs.Pipeline.{unused}
 use Rattle.image.proofs.decode.decode.Statement.{statement}
 use Rattle.image.proofs.decode.decode.Tie as tie
 

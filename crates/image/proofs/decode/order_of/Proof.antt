@@ -1,6 +1,6 @@
 -- Each field is what its reader says.
-use Rattle.model.specs.Image.{orderOf}
 use borrow.Author.Needs.{needs}
+use Rattle.model.specs.Image.{orderOf}
 use Rattle.image.proofs.decode.order_of.Statement.{statement}
 use Rattle.image.proofs.decode.order_of.Tie as tie
 

@@ -1,6 +1,6 @@
 -- Each field is what its reader says.
-use Rattle.model.specs.Image.{serviceOf}
 use borrow.Author.Needs.{needs}
+use Rattle.model.specs.Image.{serviceOf}
 use Rattle.image.proofs.decode.service_of.Statement.{statement}
 use Rattle.image.proofs.decode.service_of.Tie as tie
 

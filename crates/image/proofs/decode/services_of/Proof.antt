@@ -1,10 +1,9 @@
-use lib.ListN.{length-set}
 -- An array filled from the front: the entries so far are the first of the list.
-use borrow.Author.Needs.{needs}
 use mathlib.Core.Path.{_≡_}
 use Prim.Native.Nat.{_≤_, _-_}
 use native.Mathlib.Omega.{arith}
-use lib.ListN.{length, take}
+use lib.ListN.{length-set, length, take}
+use borrow.Author.Needs.{needs}
 use Rattle.model.specs.Lists.{upward}
 use Rattle.model.specs.Layout.{servicePart}
 use Rattle.model.specs.Image.{serviceOf}

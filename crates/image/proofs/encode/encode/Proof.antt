@@ -3,10 +3,10 @@ use mathlib.Core.Path.{_≡_, ap}
 use Prim.Native.Nat.{ℕ}
 use native.Mathlib.Omega.{arith}
 use lib.ListN.{length, replicate}
+use borrow.Author.Needs.{needs}
 use Rattle.lists.proofs.Stores.{stored-same}
 use Rattle.lists.proofs.Fills.{length-mapped}
 use Rattle.image.proofs.Rows.{unused-count, encoded}
-use borrow.Author.Needs.{needs}
 use Rattle.image.proofs.encode.encode.Statement.{statement}
 use Rattle.image.proofs.encode.encode.Tie as tie
 

@@ -1,7 +1,7 @@
 -- Four stores, one after the other.
 use native.Mathlib.Omega.{arith}
-use Rattle.lists.proofs.Stores.{stored-then}
 use borrow.Author.Needs.{needs}
+use Rattle.lists.proofs.Stores.{stored-then}
 use Rattle.image.proofs.encode.put_header.Statement.{statement}
 use Rattle.image.proofs.encode.put_header.Tie as tie
 

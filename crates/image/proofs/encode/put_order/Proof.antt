@@ -1,11 +1,11 @@
-use mathlib.Core.Path.{_≡_}
-use lib.ListN.{length, length-append}
-use Rattle.image.proofs.Rows.{length-halves, length-order}
 -- Five stores, one after the other.
+use mathlib.Core.Path.{_≡_}
 use native.Mathlib.Omega.{arith}
+use lib.ListN.{length, length-append}
+use borrow.Author.Needs.{needs}
+use Rattle.image.proofs.Rows.{length-halves, length-order}
 use Rattle.lists.proofs.Stores.{stored-then}
 use Rattle.model.specs.Image.{orderBytes}
-use borrow.Author.Needs.{needs}
 use Rattle.image.proofs.encode.put_order.Statement.{statement}
 use Rattle.image.proofs.encode.put_order.Tie as tie
 

@@ -1,9 +1,9 @@
 -- The entries so far are one store of rows.
-use borrow.Author.Needs.{needs}
 use mathlib.Core.Path.{_≡_, refl, sym, ap, _∙_}
 use Prim.Native.Nat.{_≤_, _-_}
 use native.Mathlib.Omega.{arith}
 use lib.ListN.{length, getD}
+use borrow.Author.Needs.{needs}
 use Rattle.model.specs.Lists.{concat}
 use Rattle.model.specs.Image.{orderBytes}
 use Rattle.lists.proofs.Stores.{stored-same}

@@ -1,8 +1,8 @@
 -- Three stores, one after the other.
 use native.Mathlib.Omega.{arith}
+use borrow.Author.Needs.{needs}
 use Rattle.lists.proofs.Stores.{stored-then}
 use Rattle.model.specs.Image.{serviceBytes}
-use borrow.Author.Needs.{needs}
 use Rattle.image.proofs.encode.put_service.Statement.{statement}
 use Rattle.image.proofs.encode.put_service.Tie as tie
 

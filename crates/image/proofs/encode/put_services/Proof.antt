@@ -1,17 +1,17 @@
 -- The entries so far are one store of rows.
-use borrow.Author.Needs.{needs}
 use mathlib.Core.Path.{_≡_, refl, sym, ap, _∙_}
+use mathlib.Core.List.{map}
 use Prim.Native.Nat.{_≤_, _-_}
 use native.Mathlib.Omega.{arith}
 use lib.ListN.{length, getD}
-use mathlib.Core.List.{map}
+use lib.Seq.{take-all}
+use borrow.Author.Needs.{needs}
 use Rattle.model.specs.Lists.{concat}
 use Rattle.model.specs.Image.{serviceBytes}
 use Rattle.lists.proofs.Stores.{stored-same}
 use Rattle.lists.proofs.Fills.{Rows, rows-none, rows-more, map-upward}
 use Rattle.image.proofs.Rows.{length-service}
 use Rattle.model.specs.State.{idle}
-use lib.Seq.{take-all}
 use Rattle.image.proofs.encode.put_services.Statement.{statement}
 use Rattle.image.proofs.encode.put_services.Tie as tie
 

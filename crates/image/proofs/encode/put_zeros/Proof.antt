@@ -1,12 +1,11 @@
-use denote.Ref.{now}
-use native.Mathlib.Nat.{sub-self}
-use lib.ListN.{length-set}
 -- The zeros so far are one store.
-use borrow.Author.Needs.{needs}
 use mathlib.Core.Path.{_≡_, refl}
 use Prim.Native.Nat.{_≤_, _+_, _-_}
+use native.Mathlib.Nat.{sub-self}
 use native.Mathlib.Omega.{arith}
-use lib.ListN.{length, replicate}
+use lib.ListN.{length-set, length, replicate}
+use denote.Ref.{now}
+use borrow.Author.Needs.{needs}
 use Rattle.lists.specs.Stored.{Stored}
 use Rattle.lists.proofs.Stores.{stored-none, fill-more}
 use Rattle.image.proofs.encode.put_zeros.Statement.{statement}

@@ -1,6 +1,6 @@
 -- Each entry is what its reader says.
-use Rattle.model.specs.Bytes.{eightBytes}
 use borrow.Author.Needs.{needs}
+use Rattle.model.specs.Bytes.{eightBytes}
 use Rattle.little_endian.proofs.read.eight_bytes_at.Statement.{statement}
 use Rattle.little_endian.proofs.read.eight_bytes_at.Tie as tie
 

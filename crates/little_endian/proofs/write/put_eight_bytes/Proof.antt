@@ -1,10 +1,10 @@
-use mathlib.Core.Path.{_≡_}
-use lib.ListN.{length}
 -- Two stores of four entries, and an array of eight is its eight entries.
+use mathlib.Core.Path.{_≡_}
 use native.Mathlib.Omega.{arith}
+use lib.ListN.{length}
+use borrow.Author.Needs.{needs}
 use Rattle.lists.proofs.Stores.{stored-then, stored-same}
 use Rattle.little_endian.proofs.Eight.{eight}
-use borrow.Author.Needs.{needs}
 use Rattle.little_endian.proofs.write.put_eight_bytes.Statement.{statement}
 use Rattle.little_endian.proofs.write.put_eight_bytes.Tie as tie
 

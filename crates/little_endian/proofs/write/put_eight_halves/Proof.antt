@@ -1,14 +1,14 @@
+-- Two stores of four entries, and an array of eight is its eight entries.
 use mathlib.Core.Path.{_≡_, ap}
 use mathlib.Core.List.{List, map}
 use Prim.Native.Nat.{ℕ}
-use lib.ListN.{length}
-use Rattle.model.specs.Bytes.{twoBytes}
--- Two stores of four entries, and an array of eight is its eight entries.
 use native.Mathlib.Omega.{arith}
+use lib.ListN.{length}
+use borrow.Author.Needs.{needs}
+use Rattle.model.specs.Bytes.{twoBytes}
 use Rattle.lists.proofs.Stores.{stored-then, stored-same}
 use Rattle.little_endian.proofs.Eight.{eight}
 use Rattle.model.specs.Lists.{concat}
-use borrow.Author.Needs.{needs}
 use Rattle.little_endian.proofs.write.put_eight_halves.Statement.{statement}
 use Rattle.little_endian.proofs.write.put_eight_halves.Tie as tie
 

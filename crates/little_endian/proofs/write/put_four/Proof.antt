@@ -1,8 +1,8 @@
 -- Single stores, one after the other, are one store of them all.
 use native.Mathlib.Omega.{arith}
 use lib.ListN.{length-set}
-use Rattle.lists.proofs.Stores.{stored-four}
 use borrow.Author.Needs.{needs}
+use Rattle.lists.proofs.Stores.{stored-four}
 use Rattle.little_endian.proofs.write.put_four.Statement.{statement}
 use Rattle.little_endian.proofs.write.put_four.Tie as tie
 

@@ -1,8 +1,8 @@
 -- Four stores of two bytes.
 use native.Mathlib.Omega.{arith}
+use borrow.Author.Needs.{needs}
 use Rattle.lists.proofs.Stores.{stored-then}
 use Rattle.model.specs.Lists.{concat}
-use borrow.Author.Needs.{needs}
 use Rattle.little_endian.proofs.write.put_four_halves.Statement.{statement}
 use Rattle.little_endian.proofs.write.put_four_halves.Tie as tie
 

@@ -1,8 +1,8 @@
 -- Single stores, one after the other, are one store of them all.
 use native.Mathlib.Omega.{arith}
 use lib.ListN.{length-set}
-use Rattle.lists.proofs.Stores.{stored-two}
 use borrow.Author.Needs.{needs}
+use Rattle.lists.proofs.Stores.{stored-two}
 use Rattle.little_endian.proofs.write.put_two.Statement.{statement}
 use Rattle.little_endian.proofs.write.put_two.Tie as tie
 

@@ -1,59 +1,62 @@
+-- The test of the entries so far.
+use mathlib.Core.Path.{_≡_}
+use Prim.Native.Nat.{_≤_, _-_, _*_}
+use native.Mathlib.Omega.{arith}
+use lib.Seq.{take-all}
+use lib.ListN.{length, take}
+use borrow.Author.Needs.{needs}
+use Rattle.model.specs.Lists.{total}
+use Rattle.lists.proofs.Tests.{total-none, total-before}
 use Rattle.record_soundness.proofs.rows.before_last.Statement.{statement}
 use Rattle.record_soundness.proofs.rows.before_last.Tie as tie
-use Rattle.record_soundness.proofs.rows.before_last.Reads as reads
-use Rattle.record_soundness.proofs.rows.before_last.Lts as lts
-use Rattle.record_soundness.proofs.rows.if_before.Reads as if-before-reads
-use Rattle.record_soundness.proofs.rows.wide.Reads as wide-reads
 
 abbrev Inv-loop : tie.InvT-loop
-Inv-loop n maxima t₀ k₀ t k = ?
+Inv-loop n maxima t₀ k₀ t k = (k ≤ 8) × (t ≤ 65535 * k) × (t ≡ total (take (n - 1) (take k maxima)))
 
 abbrev μ-loop : tie.MeasureT-loop
-μ-loop n maxima t₀ k₀ t k = ?
+μ-loop n maxima t₀ k₀ t k = 8 - k
 
--- src/rows.rt:79:5
 loop-holds : tie.Need-loop-holds Inv-loop μ-loop
-loop-holds c = ?
+loop-holds c = (omega arith, omega arith, total-none (c .args .n - 1))
 
--- src/rows.rt:80:45
 cast-wide : tie.Need-cast-wide Inv-loop μ-loop
-cast-wide c = ?
+cast-wide c = omega arith
 
--- src/rows.rt:80:38
 mul-wide : tie.Need-mul-wide Inv-loop μ-loop
-mul-wide c = ?
+mul-wide c = omega arith
 
--- src/rows.rt:80:38
 array-read-wide : tie.Need-array-read-wide Inv-loop μ-loop
-array-read-wide c = ?
+array-read-wide c = omega arith
 
--- src/rows.rt:80:33
 wide-requires : tie.Need-wide-requires Inv-loop μ-loop
-wide-requires c κs = ?
+wide-requires c κs = search needs
 
--- src/rows.rt:80:17
 if-before-requires : tie.Need-if-before-requires Inv-loop μ-loop
-if-before-requires c κs = ?
+if-before-requires c κs = search needs
 
--- src/rows.rt:80:13
 add-t : tie.Need-add-t Inv-loop μ-loop
-add-t c = ?
+add-t c = omega arith
 
--- src/rows.rt:81:9
 add-k : tie.Need-add-k Inv-loop μ-loop
-add-k c = ?
+add-k c = omega arith
 
--- src/rows.rt:79:5
 loop-less : tie.Need-loop-less Inv-loop μ-loop
-loop-less c = ?
+loop-less c = omega arith
 
--- src/rows.rt:79:5
 loop-again : tie.Need-loop-again Inv-loop μ-loop
-loop-again c = ?
+loop-again c =
+    let k = c .before .before .before in
+    let row = k .before .args .t2 in
+    let long : length row ≡ 8 = search needs in
+    let inv = k .loop .inv in
+    (omega arith, omega arith, rw (c .if-before .ensures .0, c .before .wide .ensures .0, inv .2) (total-before row (k .loop .k) (omega arith) (k .before .args .n)))
 
--- src/rows.rt:74:1
 returns : tie.Need-returns Inv-loop μ-loop
-returns c = ?
+returns c =
+    let row = c .before .before .args .t2 in
+    let long : length row ≡ 8 = search needs in
+    let e : c .before .loop .k ≡ 8 = omega arith in
+    (rw (e, take-all 8 row (omega arith)) at (c .before .loop .inv .2), omega arith)
 
 pub before-last-spec : {M : Type 1} → statement M
 before-last-spec =

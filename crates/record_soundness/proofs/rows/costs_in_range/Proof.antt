@@ -1,41 +1,53 @@
+-- The test of the entries so far.
+use mathlib.Core.Path.{_≡_}
+use Prim.Native.Nat.{_≤_, _-_}
+use native.Mathlib.Omega.{arith}
+use lib.Seq.{take-all}
+use lib.ListN.{length, take}
+use borrow.Author.Needs.{needs}
+use Rattle.model.specs.Lists.{all, within}
+use Rattle.model.specs.Soundness.{costsInRange}
+use Rattle.lists.proofs.Tests.{first-none, all-first}
+use Rattle.model.specs.Limits.{maxCost}
 use Rattle.record_soundness.proofs.rows.costs_in_range.Statement.{statement}
 use Rattle.record_soundness.proofs.rows.costs_in_range.Tie as tie
-use Rattle.record_soundness.proofs.rows.costs_in_range.Reads as reads
-use Rattle.record_soundness.proofs.rows.costs_in_range.Lts as lts
 
 abbrev Inv-loop : tie.InvT-loop
-Inv-loop n costs holds₀ k₀ holds k = ?
+Inv-loop n costs holds₀ k₀ holds k = (k ≤ 8) × (holds ≡ all (within 1 maxCost) (take n (take k costs)))
 
 abbrev μ-loop : tie.MeasureT-loop
-μ-loop n costs holds₀ k₀ holds k = ?
+μ-loop n costs holds₀ k₀ holds k = 8 - k
 
--- src/rows.rt:38:5
 loop-holds : tie.Need-loop-holds Inv-loop μ-loop
-loop-holds c = ?
+loop-holds c = (omega arith, first-none (within 1 maxCost) (c .args .n))
 
--- src/rows.rt:39:17
 mul-c : tie.Need-mul-c Inv-loop μ-loop
-mul-c c = ?
+mul-c c = omega arith
 
--- src/rows.rt:39:17
 array-read-c : tie.Need-array-read-c Inv-loop μ-loop
-array-read-c c = ?
+array-read-c c = omega arith
 
--- src/rows.rt:41:9
 add-k : tie.Need-add-k Inv-loop μ-loop
-add-k c = ?
+add-k c = omega arith
 
--- src/rows.rt:38:5
 loop-less : tie.Need-loop-less Inv-loop μ-loop
-loop-less c = ?
+loop-less c = omega arith
 
--- src/rows.rt:38:5
 loop-again : tie.Need-loop-again Inv-loop μ-loop
-loop-again c = ?
+loop-again c =
+    let top = c .before .before in
+    let row = top .args .t2 in
+    let long : length row ≡ 8 = search needs in
+    (omega arith, all-first (within 1 maxCost) 0 row (top .args .n) (c .before .loop .k) (omega arith) (c .before .loop .inv .1))
 
--- src/rows.rt:33:1
 returns : tie.Need-returns Inv-loop μ-loop
-returns c = ?
+unfolding costsInRange
+returns c =
+    let top = c .before .before in
+    let row = top .args .t2 in
+    let long : length row ≡ 8 = search needs in
+    let e : c .before .loop .k ≡ 8 = omega arith in
+    rw (e, take-all 8 row (omega arith)) at (c .before .loop .inv .1)
 
 pub costs-in-range-spec : {M : Type 1} → statement M
 costs-in-range-spec =

@@ -1,51 +1,57 @@
+-- The test of the entries so far.
+use mathlib.Core.Path.{_≡_, refl, sym, _∙_}
+use Prim.Native.Nat.{_≤_, _-_}
+use native.Mathlib.Omega.{arith}
+use lib.Seq.{take-all}
+use lib.ListN.{length, take}
+use borrow.Author.Needs.{needs}
+use Rattle.model.specs.Lists.{largest}
+use Rattle.lists.proofs.Tests.{largest-more}
 use Rattle.record_soundness.proofs.rows.largest.Statement.{statement}
 use Rattle.record_soundness.proofs.rows.largest.Tie as tie
-use Rattle.record_soundness.proofs.rows.largest.Reads as reads
-use Rattle.record_soundness.proofs.rows.largest.Lts as lts
-use Rattle.record_soundness.proofs.rows.larger.Reads as larger-reads
-use Rattle.record_soundness.proofs.rows.wide.Reads as wide-reads
 
 abbrev Inv-loop : tie.InvT-loop
-Inv-loop costs m₀ k₀ m k = ?
+Inv-loop costs m₀ k₀ m k = (k ≤ 8) × (m ≡ largest (take k costs))
 
 abbrev μ-loop : tie.MeasureT-loop
-μ-loop costs m₀ k₀ m k = ?
+μ-loop costs m₀ k₀ m k = 8 - k
 
--- src/rows.rt:66:5
 loop-holds : tie.Need-loop-holds Inv-loop μ-loop
-loop-holds c = ?
+unfolding largest
+loop-holds c = (omega arith, refl)
 
--- src/rows.rt:67:28
 mul-wide : tie.Need-mul-wide Inv-loop μ-loop
-mul-wide c = ?
+mul-wide c = omega arith
 
--- src/rows.rt:67:28
 array-read-wide : tie.Need-array-read-wide Inv-loop μ-loop
-array-read-wide c = ?
+array-read-wide c = omega arith
 
--- src/rows.rt:67:23
 wide-requires : tie.Need-wide-requires Inv-loop μ-loop
-wide-requires c κs = ?
+wide-requires c κs = search needs
 
--- src/rows.rt:67:9
 larger-requires : tie.Need-larger-requires Inv-loop μ-loop
-larger-requires c κs = ?
+larger-requires c κs = search needs
 
--- src/rows.rt:68:9
 add-k : tie.Need-add-k Inv-loop μ-loop
-add-k c = ?
+add-k c = omega arith
 
--- src/rows.rt:66:5
 loop-less : tie.Need-loop-less Inv-loop μ-loop
-loop-less c = ?
+loop-less c = omega arith
 
--- src/rows.rt:66:5
 loop-again : tie.Need-loop-again Inv-loop μ-loop
-loop-again c = ?
+loop-again c =
+    let k = c .before .before .before in
+    let row = k .before .args .t1 in
+    let long : length row ≡ 8 = search needs in
+    (omega arith, c .larger .ensures ∙ (rw (c .before .wide .ensures .0, k .loop .inv .1) (sym (largest-more row (k .loop .k) (omega arith)))))
 
--- src/rows.rt:61:1
 returns : tie.Need-returns Inv-loop μ-loop
-returns c = ?
+returns c =
+    let top = c .before .before in
+    let row = top .args .t1 in
+    let long : length row ≡ 8 = search needs in
+    let e : c .before .loop .k ≡ 8 = omega arith in
+    rw (e, take-all 8 row (omega arith)) at (c .before .loop .inv .1)
 
 pub largest-spec : {M : Type 1} → statement M
 largest-spec =

@@ -1,49 +1,59 @@
+-- The test of the entries so far.
+use mathlib.Core.Path.{_≡_}
+use Prim.Native.Nat.{_≤_, _-_}
+use native.Mathlib.Omega.{arith}
+use lib.Seq.{take-all}
+use lib.ListN.{length, take}
+use borrow.Author.Needs.{needs}
+use Rattle.model.specs.Lists.{allStations, within, at}
+use Rattle.lists.proofs.Tests.{stations-none, stations-first}
+use Rattle.model.specs.Limits.{maxCost}
+use Rattle.record_soundness.specs.Record.{maximaHold}
 use Rattle.record_soundness.proofs.rows.maxima_in_range.Statement.{statement}
 use Rattle.record_soundness.proofs.rows.maxima_in_range.Tie as tie
-use Rattle.record_soundness.proofs.rows.maxima_in_range.Reads as reads
-use Rattle.record_soundness.proofs.rows.maxima_in_range.Lts as lts
 
 abbrev Inv-loop : tie.InvT-loop
-Inv-loop n costs maxima holds₀ k₀ holds k = ?
+Inv-loop n costs maxima holds₀ k₀ holds k = (k ≤ 8) × (holds ≡ allStations (λ j m. within (at 0 costs j) maxCost m) (take n (take k maxima)))
 
 abbrev μ-loop : tie.MeasureT-loop
-μ-loop n costs maxima holds₀ k₀ holds k = ?
+μ-loop n costs maxima holds₀ k₀ holds k = 8 - k
 
--- src/rows.rt:52:5
 loop-holds : tie.Need-loop-holds Inv-loop μ-loop
-loop-holds c = ?
+loop-holds c = (omega arith, stations-none _ (c .args .n))
 
--- src/rows.rt:53:17
 mul-m : tie.Need-mul-m Inv-loop μ-loop
-mul-m c = ?
+mul-m c = omega arith
 
--- src/rows.rt:53:17
 array-read-m : tie.Need-array-read-m Inv-loop μ-loop
-array-read-m c = ?
+array-read-m c = omega arith
 
--- src/rows.rt:54:48
 mul-holds : tie.Need-mul-holds Inv-loop μ-loop
-mul-holds c = ?
+mul-holds c = omega arith
 
--- src/rows.rt:54:48
 array-read-holds : tie.Need-array-read-holds Inv-loop μ-loop
-array-read-holds c = ?
+array-read-holds c = omega arith
 
--- src/rows.rt:55:9
 add-k : tie.Need-add-k Inv-loop μ-loop
-add-k c = ?
+add-k c = omega arith
 
--- src/rows.rt:52:5
 loop-less : tie.Need-loop-less Inv-loop μ-loop
-loop-less c = ?
+loop-less c = omega arith
 
--- src/rows.rt:52:5
 loop-again : tie.Need-loop-again Inv-loop μ-loop
-loop-again c = ?
+loop-again c =
+    let top = c .before .before in
+    let row = top .args .t3 in
+    let long : length row ≡ 8 = search needs in
+    (omega arith, stations-first (λ j m. within (at 0 (top .args .t2) j) maxCost m) 0 row (top .args .n) (c .before .loop .k) (omega arith) (c .before .loop .inv .1))
 
--- src/rows.rt:47:1
 returns : tie.Need-returns Inv-loop μ-loop
-returns c = ?
+unfolding maximaHold
+returns c =
+    let top = c .before .before in
+    let row = top .args .t3 in
+    let long : length row ≡ 8 = search needs in
+    let e : c .before .loop .k ≡ 8 = omega arith in
+    rw (e, take-all 8 row (omega arith)) at (c .before .loop .inv .1)
 
 pub maxima-in-range-spec : {M : Type 1} → statement M
 maxima-in-range-spec =

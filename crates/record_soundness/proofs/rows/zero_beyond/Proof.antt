@@ -1,41 +1,52 @@
+-- The test of the entries so far.
+use mathlib.Core.Path.{_≡_}
+use Prim.Native.Nat.{_≤_, _-_}
+use native.Mathlib.Omega.{arith}
+use lib.Seq.{take-all}
+use lib.ListN.{length, take, drop}
+use borrow.Author.Needs.{needs}
+use Rattle.model.specs.Lists.{all, isZero}
+use Rattle.model.specs.Soundness.{zeroBeyond}
+use Rattle.lists.proofs.Tests.{beyond-none, all-beyond}
 use Rattle.record_soundness.proofs.rows.zero_beyond.Statement.{statement}
 use Rattle.record_soundness.proofs.rows.zero_beyond.Tie as tie
-use Rattle.record_soundness.proofs.rows.zero_beyond.Reads as reads
-use Rattle.record_soundness.proofs.rows.zero_beyond.Lts as lts
 
 abbrev Inv-loop : tie.InvT-loop
-Inv-loop n row holds₀ k₀ holds k = ?
+Inv-loop n row holds₀ k₀ holds k = (k ≤ 8) × (holds ≡ all isZero (drop n (take k row)))
 
 abbrev μ-loop : tie.MeasureT-loop
-μ-loop n row holds₀ k₀ holds k = ?
+μ-loop n row holds₀ k₀ holds k = 8 - k
 
--- src/rows.rt:104:5
 loop-holds : tie.Need-loop-holds Inv-loop μ-loop
-loop-holds c = ?
+loop-holds c = (omega arith, beyond-none isZero (c .args .n))
 
--- src/rows.rt:105:46
 mul-holds : tie.Need-mul-holds Inv-loop μ-loop
-mul-holds c = ?
+mul-holds c = omega arith
 
--- src/rows.rt:105:46
 array-read-holds : tie.Need-array-read-holds Inv-loop μ-loop
-array-read-holds c = ?
+array-read-holds c = omega arith
 
--- src/rows.rt:106:9
 add-k : tie.Need-add-k Inv-loop μ-loop
-add-k c = ?
+add-k c = omega arith
 
--- src/rows.rt:104:5
 loop-less : tie.Need-loop-less Inv-loop μ-loop
-loop-less c = ?
+loop-less c = omega arith
 
--- src/rows.rt:104:5
 loop-again : tie.Need-loop-again Inv-loop μ-loop
-loop-again c = ?
+loop-again c =
+    let top = c .before .before in
+    let row = top .args .t2 in
+    let long : length row ≡ 8 = search needs in
+    (omega arith, all-beyond isZero 0 row (top .args .n) (c .before .loop .k) (omega arith) (c .before .loop .inv .1))
 
--- src/rows.rt:99:1
 returns : tie.Need-returns Inv-loop μ-loop
-returns c = ?
+unfolding zeroBeyond
+returns c =
+    let top = c .before .before in
+    let row = top .args .t2 in
+    let long : length row ≡ 8 = search needs in
+    let e : c .before .loop .k ≡ 8 = omega arith in
+    rw (e, take-all 8 row (omega arith)) at (c .before .loop .inv .1)
 
 pub zero-beyond-spec : {M : Type 1} → statement M
 zero-beyond-spec =

@@ -1,0 +1,44 @@
+-- Clause by clause.
+use borrow.Author.Needs.{needs}
+use Rattle.record_soundness.specs.Record.{testsOf, maximaHold}
+use Rattle.model.specs.Soundness.{maximaInRange}
+use Rattle.record_soundness.proofs.tested.Statement.{statement}
+use Rattle.record_soundness.proofs.tested.Tie as tie
+
+due-in-range-requires : tie.Need-due-in-range-requires
+due-in-range-requires c κs = search needs
+
+station-in-use-requires : tie.Need-station-in-use-requires
+station-in-use-requires c κs = search needs
+
+costs-in-range-requires : tie.Need-costs-in-range-requires
+costs-in-range-requires c κs = search needs
+
+maxima-in-range-requires : tie.Need-maxima-in-range-requires
+maxima-in-range-requires c κs = search needs
+
+sum-in-range-requires : tie.Need-sum-in-range-requires
+sum-in-range-requires c κs = search needs
+
+on-time-requires : tie.Need-on-time-requires
+on-time-requires c κs = search needs
+
+zero-beyond-requires : tie.Need-zero-beyond-requires
+zero-beyond-requires c κs = search needs
+
+returns : tie.Need-returns
+unfolding testsOf maximaInRange maximaHold
+returns c = cc
+
+pub tested-spec : {M : Type 1} → statement M
+tested-spec =
+    tie.close
+    (tie.spec
+    due-in-range-requires
+    station-in-use-requires
+    costs-in-range-requires
+    maxima-in-range-requires
+    sum-in-range-requires
+    on-time-requires
+    zero-beyond-requires
+    returns)
