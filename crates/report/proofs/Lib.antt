@@ -1,0 +1,5 @@
+-- Laws of the printed text.
+pub mod Lengths
+pub mod Room
+pub mod Images
+pub mod Example

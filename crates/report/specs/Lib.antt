@@ -1,0 +1,3 @@
+-- What `inspect` prints, and of which states.
+pub mod Report
+pub mod Ranges

@@ -1,0 +1,3 @@
+-- Laws that printers share.
+pub mod Decimals
+pub mod Rows

@@ -1,0 +1,55 @@
+# Read by the scripts of tests/gate and by bench/run, which stand in the root of the repository.
+# Everything that they build is under target/, which `rt ci` removes.
+
+die() {
+    echo "$*"
+    exit 1
+}
+
+# need COMMAND WHY: the script goes no further without it.
+need() {
+    command -v "$1" > /dev/null || die "no command '$1' on this machine: $2"
+}
+
+# The archives that rt writes, and the programs, are for x86-64.
+need_x86_64() {
+    [ "$(uname -m)" = x86_64 ] || die "this test runs code of the library, which is for x86-64; this machine is $(uname -m)"
+}
+
+# newer_than_sources FILE: FILE is there and no source of a crate was changed after it was made.
+newer_than_sources() {
+    [ -e "$1" ] && [ -z "$(find crates crates.txt -newer "$1" -print -quit)" ]
+}
+
+# static_library NAME: target/staticlib/libNAME.a, proved.
+static_library() {
+    local made=target/staticlib/lib$1.a
+    newer_than_sources "$made" && return
+    need rt "the library is proved and built with it"
+    echo "rt staticlib $1"
+    mkdir -p target
+    rt staticlib "$1" > "target/staticlib-$1.log" 2>&1 || { tail -n 20 "target/staticlib-$1.log"; die "rt staticlib $1 failed"; }
+    [ -s "$made" ] || die "rt staticlib $1 made no $made"
+}
+
+# program NAME: target/bin/NAME, proved.
+program() {
+    local made=target/bin/$1
+    newer_than_sources "$made" && return
+    need rt "the program is proved and built with it"
+    echo "rt check $1"
+    mkdir -p target
+    rt check "$1" > "target/check-$1.log" 2>&1 || { tail -n 20 "target/check-$1.log"; die "rt check $1 failed"; }
+    [ -x "$made" ] || die "rt check $1 made no $made"
+}
+
+# The second simulator writes beside its sources when it is built, so a copy of it is built. `simulator` is the copy and `simulate` its program.
+simulator=target/second-simulator
+simulate=$simulator/target/harness/release/second-simulator
+build_simulator() {
+    need cargo "the second simulator is written in Rust"
+    mkdir -p "$simulator"
+    cp -Rp tests/second-simulator/. "$simulator/" || die "cannot copy the second simulator"
+    # The same folder as run-harness.sh uses, so that nothing is compiled twice.
+    (cd "$simulator" && cargo build --offline --locked --release -q --target-dir target/harness) || die "the second simulator is not built"
+}

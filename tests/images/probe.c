@@ -1,0 +1,195 @@
+/* probe IMAGES: the codec and the questions 1 to 4 of the library, through libprobe.a.
+ *
+ * IMAGES holds images with the number that the second simulator, or document 01 alone, gives them by questions 2 to 4 (tests/images/compare.py wrote it):
+ * number and length, 4 bytes each, low byte first, then the image. For each image:
+ *
+ *   probe_number   with a reply of 16 bytes gives that number, with a reply of 0, 15 or 17 bytes gives 1, and changes nothing;
+ *   probe_recode   gives 2 for a wrong length, 4 for a live count above 32, both changing nothing; else 0, and it changes exactly the bytes that no field
+ *                  owns (`plain` below, from document 01's table). An image with number 0 has none to change: it comes back as it was, byte by byte.
+ *
+ * probe_recode is also tried on random bytes, with a fixed seed.
+ *
+ * Every buffer stands twice: once with its end at a page that may not be touched and guard bytes before it, once with its start at such a page and guard bytes
+ * behind. So a byte read or written outside ends the program, or is found. */
+#define _DEFAULT_SOURCE
+#include <signal.h>
+#include <stddef.h>
+#include <stdint.h>
+#include <stdio.h>
+#include <stdlib.h>
+#include <string.h>
+#include <sys/mman.h>
+#include <unistd.h>
+
+uint32_t probe_number(const uint8_t *image, size_t image_len, const uint8_t *reply, size_t reply_len);
+uint32_t probe_recode(uint8_t *image, size_t image_len);
+
+#define SIZE 2128
+#define ROOM 8192 /* whole pages, more than any buffer needs */
+#define GUARD 0xc3
+
+/* Room of ROOM bytes between two pages that may not be touched. */
+struct area {
+    uint8_t *room;
+    uint8_t *lent;
+    size_t length;
+};
+
+static struct area image_area, reply_area;
+static char what[200];
+
+static void fail(const char *text)
+{
+    printf("%s: %s\n", what, text);
+    exit(1);
+}
+
+static void crashed(int signal)
+{
+    printf("%s: signal %d: touched what is outside of the buffers\n", what, signal);
+    fflush(stdout);
+    _exit(1);
+}
+
+static void make(struct area *a)
+{
+    size_t page = (size_t)sysconf(_SC_PAGESIZE);
+    uint8_t *whole = mmap(NULL, ROOM + 2 * page, PROT_NONE, MAP_PRIVATE | MAP_ANONYMOUS, -1, 0);
+    if (ROOM % page != 0 || whole == MAP_FAILED || mprotect(whole + page, ROOM, PROT_READ | PROT_WRITE) != 0) {
+        puts("no memory with guard pages");
+        exit(1);
+    }
+    a->room = whole + page;
+}
+
+/* Lends a copy of the bytes, at the end of the room or at its start. */
+static void lend(struct area *a, const uint8_t *bytes, size_t length, int at_end)
+{
+    memset(a->room, GUARD, ROOM);
+    a->lent = at_end ? a->room + ROOM - length : a->room;
+    a->length = length;
+    memcpy(a->lent, bytes, length);
+}
+
+/* The lent bytes are these now, and the guard bytes stand. */
+static void expect_bytes(const struct area *a, const uint8_t *bytes, const char *name)
+{
+    for (const uint8_t *at = a->room; at < a->room + ROOM; at++) {
+        int inside = at >= a->lent && at < a->lent + a->length;
+        if (*at == (inside ? bytes[at - a->lent] : GUARD))
+            continue;
+        printf("%s: %s, byte %ld is %d\n", what, name, (long)(at - a->lent), *at);
+        exit(1);
+    }
+}
+
+/* What encoding makes of the fields that are read from an image: mark and version as they should be, every zero byte and every unused record zero. */
+static void plain(uint8_t *image)
+{
+    size_t live = image[6];
+    memcpy(image, "WMC\1\0", 5);
+    image[7] = 0;
+    for (size_t k = 0; k < 8; k++)
+        memset(image + 16 + 8 * k + 6, 0, 2);
+    for (size_t k = 0; k < live; k++) {
+        memset(image + 80 + 64 * k + 17, 0, 3);
+        memset(image + 80 + 64 * k + 60, 0, 4);
+    }
+    memset(image + 80 + 64 * live, 0, 64 * (32 - live));
+}
+
+static unsigned long recoded[5], changed;
+
+static void try_recode(const uint8_t *image, size_t length, int sound)
+{
+    uint8_t after[ROOM];
+    uint32_t number = length != SIZE ? 2 : image[6] > 32 ? 4 : 0;
+    memcpy(after, image, length);
+    if (number == 0)
+        plain(after);
+    if (sound && memcmp(after, image, length) != 0)
+        fail("the test itself: a sound image is not plain");
+    for (int at_end = 0; at_end < 2; at_end++) {
+        lend(&image_area, image, length, at_end);
+        uint32_t given = probe_recode(image_area.lent, length);
+        if (given != number) {
+            printf("%s: probe_recode gives %lu, not %lu\n", what, (unsigned long)given, (unsigned long)number);
+            exit(1);
+        }
+        expect_bytes(&image_area, after, "image after probe_recode");
+    }
+    recoded[number]++;
+    changed += memcmp(after, image, length) != 0;
+}
+
+static void try_number(const uint8_t *image, size_t length, uint32_t number)
+{
+    static const size_t reply_lengths[] = {16, 15, 17, 0};
+    static const uint8_t reply[17] = {9, 8, 7, 6, 5, 4, 3, 2, 1, 0, 255, 254, 253, 252, 251, 250, 249};
+    for (size_t r = 0; r < 4; r++)
+        for (int at_end = 0; at_end < 2; at_end++) {
+            lend(&image_area, image, length, at_end);
+            lend(&reply_area, reply, reply_lengths[r], at_end);
+            uint32_t given = probe_number(image_area.lent, length, reply_area.lent, reply_lengths[r]);
+            uint32_t right = reply_lengths[r] == 16 ? number : 1;
+            if (given != right) {
+                printf("%s: probe_number with a reply of %lu bytes gives %lu, not %lu\n", what, (unsigned long)reply_lengths[r],
+                       (unsigned long)given, (unsigned long)right);
+                exit(1);
+            }
+            expect_bytes(&image_area, image, "image after probe_number");
+            expect_bytes(&reply_area, reply, "reply after probe_number");
+        }
+}
+
+static uint32_t word(const uint8_t *at)
+{
+    return (uint32_t)at[0] | (uint32_t)at[1] << 8 | (uint32_t)at[2] << 16 | (uint32_t)at[3] << 24;
+}
+
+int main(int argc, char **argv)
+{
+    FILE *file = argc == 2 ? fopen(argv[1], "rb") : NULL;
+    uint8_t head[8], image[ROOM];
+    unsigned long images = 0, numbers[5] = {0};
+    if (file == NULL) {
+        puts("usage: probe IMAGES");
+        return 1;
+    }
+    make(&image_area);
+    make(&reply_area);
+    signal(SIGSEGV, crashed);
+    signal(SIGBUS, crashed);
+
+    while (fread(head, 1, 8, file) == 8) {
+        uint32_t number = word(head), length = word(head + 4);
+        sprintf(what, "image %lu (from 0) of %.80s", images, argv[1]);
+        if (number > 4 || length >= ROOM || fread(image, 1, length, file) != length)
+            fail("the file is not of the form");
+        try_number(image, length, number);
+        try_recode(image, length, number == 0);
+        images++;
+        numbers[number]++;
+    }
+    printf("probe_number: %lu images, each with four lengths of reply; numbers 0: %lu, 2: %lu, 3: %lu, 4: %lu\n", images, numbers[0], numbers[2],
+           numbers[3], numbers[4]);
+    if (numbers[0] == 0 || numbers[2] == 0 || numbers[3] == 0 || numbers[4] == 0) {
+        puts("one of the numbers was never seen");
+        return 1;
+    }
+
+    /* Random bytes; one image in four keeps a live count above 32. */
+    uint64_t seed = 20240601, x = seed;
+    for (int k = 0; k < 1000; k++) {
+        sprintf(what, "image %d (from 0) of random bytes with the seed %lu", k, (unsigned long)seed);
+        for (size_t i = 0; i < SIZE; i++) {
+            x = x * 6364136223846793005u + 1442695040888963407u;
+            image[i] = (uint8_t)(x >> 56);
+        }
+        image[6] = (uint8_t)(k % 4 == 3 ? image[6] | 33 : k % 33);
+        try_recode(image, SIZE, 0);
+    }
+    printf("probe_recode: the same images and 1,000 of random bytes, seed %lu; numbers 0: %lu (of which it had to change %lu), 2: %lu, 4: %lu\n",
+           (unsigned long)seed, recoded[0], changed, recoded[2], recoded[4]);
+    return 0;
+}
