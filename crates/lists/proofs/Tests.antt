@@ -1,17 +1,17 @@
 -- Tests, sums and the largest of a list with one more entry at its end: what a loop over the entries keeps. Of a row, n entries are in use: the loop over
 -- all of them tests that beside the entry.
 use mathlib.Core.Path.{_≡_, refl, sym, ap, _∙_}
-use mathlib.Core.Bool.{Bool, true, false, cond, _&&_, _||_}
+use mathlib.Core.Bool.{Bool, true, false, not, cond, _&&_, _||_}
 use mathlib.Core.List.{List, [], _∷_, _++_}
-use Prim.Native.Nat.{ℕ, zero, suc, _+_, _-_, _≤_, _<_, max}
+use Prim.Native.Nat.{ℕ, suc, _+_, _-_, _≤_, _<_, max}
 use native.Mathlib.Nat.{add-zero}
 use native.Mathlib.Numerals.{add-one}
 use native.Mathlib.Omega.{arith}
 use lib.ListN.{length, getD, take, drop, drop-of-length-le}
 use lib.Dec.{leb, ltb}
 use lib.Seq.{take-nil, drop-nil, take-suc, take-all, take-take, length-take-le, drop-append-le}
-use borrow.Author.Tests.{leb-true, leb-false, ltb-true, ltb-false, lt-ltb, le-ltb}
-use Rattle.model.specs.Lists.{total, largest, all, numbered, allStations, upward}
+use borrow.Author.Tests.{leb-true, leb-false, ltb-true, ltb-false, lt-ltb, le-ltb, le-leb, lt-leb}
+use Rattle.model.specs.Lists.{within, total, largest, all, numbered, allStations, upward}
 use Rattle.lists.proofs.Fills.{upward-more}
 
 and-true : (b : Bool) → b ≡ (b && true)
@@ -25,6 +25,21 @@ and-assoc false b c = refl
 pub and-both : (a b : Bool) → (a && b) ≡ true → (a ≡ true) × (b ≡ true)
 and-both true b h = (refl, h)
 and-both false b h = (h, cc)
+
+least-not : (a b : ℕ) → leb a b ≡ not (ltb b a)
+least-not a b = go (ltb b a) refl
+  where
+    go : (t : Bool) → ltb b a ≡ t → leb a b ≡ not t
+    go true e = lt-leb a b (ltb-true b a e)
+    go false e = le-leb a b (ltb-false b a e)
+
+neither : (x y : Bool) → (not x && not y) ≡ not (x || y)
+neither true y = refl
+neither false y = refl
+
+-- Inside the bounds is not outside of them.
+pub inside : (low high n : ℕ) {outside : Bool} → (ltb n low || ltb high n) ≡ outside → within low high n ≡ not outside
+inside low high n e = rw (least-not low n, least-not n high) (neither (ltb n low) (ltb high n) ∙ ap not e)
 
 module _ {A : Type 0} where
   -- The first k + 1 of a list, and of those in use.
