@@ -1,5 +1,5 @@
 -- The test of the entries so far.
-use mathlib.Core.Path.{_≡_}
+use mathlib.Core.Path.{_≡_, sym}
 use Prim.Native.Nat.{_≤_, _-_}
 use native.Mathlib.Omega.{arith}
 use lib.Seq.{take-all}
@@ -38,7 +38,7 @@ loop-again c =
     let top = c .before .before in
     let row = top .args .t2 in
     let long : length row ≡ 8 = search needs in
-    (omega arith, all-first (within 1 maxCost) 0 row (top .args .n) (c .before .loop .k) (omega arith) (c .before .loop .inv .1))
+    (omega arith, rw (c .before .loop .inv .1) (sym (all-first (within 1 maxCost) 0 (top .args .n) row (c .before .loop .k) (omega arith))))
 
 returns : tie.Need-returns Inv-loop μ-loop
 unfolding costsInRange

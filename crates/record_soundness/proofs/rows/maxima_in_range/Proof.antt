@@ -1,12 +1,12 @@
 -- The test of the entries so far.
-use mathlib.Core.Path.{_≡_}
+use mathlib.Core.Path.{_≡_, sym}
 use Prim.Native.Nat.{_≤_, _-_}
 use native.Mathlib.Omega.{arith}
 use lib.Seq.{take-all}
 use lib.ListN.{length, take}
 use borrow.Author.Needs.{needs}
 use Rattle.model.specs.Lists.{allStations, within, at}
-use Rattle.lists.proofs.Tests.{stations-none, stations-first}
+use Rattle.lists.proofs.Tests.{stations-none, stations-more}
 use Rattle.model.specs.Limits.{maxCost}
 use Rattle.record_soundness.specs.Record.{maximaHold}
 use Rattle.record_soundness.proofs.rows.maxima_in_range.Statement.{statement}
@@ -44,7 +44,7 @@ loop-again c =
     let top = c .before .before in
     let row = top .args .t3 in
     let long : length row ≡ 8 = search needs in
-    (omega arith, stations-first (λ j m. within (at 0 (top .args .t2) j) maxCost m) 0 row (top .args .n) (c .before .loop .k) (omega arith) (c .before .loop .inv .1))
+    (omega arith, rw (c .before .loop .inv .1) (sym (stations-more (λ j m. within (at 0 (top .args .t2) j) maxCost m) 0 (top .args .n) row (c .before .loop .k) (omega arith))))
 
 returns : tie.Need-returns Inv-loop μ-loop
 unfolding maximaHold

@@ -1,5 +1,5 @@
 -- The test of the entries so far.
-use mathlib.Core.Path.{_≡_}
+use mathlib.Core.Path.{_≡_, sym}
 use Prim.Native.Nat.{_≤_, _-_}
 use native.Mathlib.Omega.{arith}
 use lib.Seq.{take-all}
@@ -7,7 +7,7 @@ use lib.ListN.{length, take, drop}
 use borrow.Author.Needs.{needs}
 use Rattle.model.specs.Lists.{all, isZero}
 use Rattle.model.specs.Soundness.{zeroBeyond}
-use Rattle.lists.proofs.Tests.{beyond-none, all-beyond}
+use Rattle.lists.proofs.Tests.{none-beyond, all-beyond}
 use Rattle.record_soundness.proofs.rows.zero_beyond.Statement.{statement}
 use Rattle.record_soundness.proofs.rows.zero_beyond.Tie as tie
 
@@ -18,7 +18,7 @@ abbrev μ-loop : tie.MeasureT-loop
 μ-loop n row holds₀ k₀ holds k = 8 - k
 
 loop-holds : tie.Need-loop-holds Inv-loop μ-loop
-loop-holds c = (omega arith, beyond-none isZero (c .args .n))
+loop-holds c = (omega arith, none-beyond isZero (c .args .n))
 
 mul-holds : tie.Need-mul-holds Inv-loop μ-loop
 mul-holds c = omega arith
@@ -37,7 +37,7 @@ loop-again c =
     let top = c .before .before in
     let row = top .args .t2 in
     let long : length row ≡ 8 = search needs in
-    (omega arith, all-beyond isZero 0 row (top .args .n) (c .before .loop .k) (omega arith) (c .before .loop .inv .1))
+    (omega arith, rw (c .before .loop .inv .1) (sym (all-beyond isZero 0 (top .args .n) row (c .before .loop .k) (omega arith))))
 
 returns : tie.Need-returns Inv-loop μ-loop
 unfolding zeroBeyond
