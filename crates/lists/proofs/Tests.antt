@@ -22,6 +22,10 @@ and-assoc : (a b c : Bool) → (a && (b && c)) ≡ ((a && b) && c)
 and-assoc true b c = refl
 and-assoc false b c = refl
 
+pub and-both : (a b : Bool) → (a && b) ≡ true → (a ≡ true) × (b ≡ true)
+and-both true b h = (refl, h)
+and-both false b h = (h, cc)
+
 module _ {A : Type 0} where
   -- The first k + 1 of a list, and of those in use.
   take-more : (d : A) (l : List A) (k : ℕ) → k < length l → take (k + 1) l ≡ take k l ++ (getD l k d ∷ [])

@@ -1,0 +1,5 @@
+-- Laws that the clauses share.
+pub mod Tests
+pub mod Parts
+pub mod Rising
+pub mod Marks

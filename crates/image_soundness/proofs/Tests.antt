@@ -1,0 +1,147 @@
+-- Tests of a list's entries, as a loop makes them: with one entry more the test is the one so far and that of the entry. Over any test and any type.
+use mathlib.Core.Path.{_≡_, refl, sym, ap, _∙_}
+use mathlib.Core.Bool.{Bool, true, false, _&&_, _||_}
+use mathlib.Core.List.{List, [], _∷_, _++_, map}
+use Prim.Native.Nat.{ℕ, zero, suc, _+_, _≤_, _<_}
+use native.Mathlib.Nat.{add-zero}
+use native.Mathlib.Numerals.{add-one}
+use native.Mathlib.Omega.{arith}
+use lib.ListN.{length, getD, take, drop, drop-of-length-le}
+use lib.Seq.{take-nil, drop-nil, take-suc, take-all, take-take, length-take-le, drop-append-le, ext-getD}
+use lib.Dec.{leb, ltb}
+use borrow.Author.Tests.{ltb-true, ltb-false, leb-true, leb-false}
+use Rattle.model.specs.Lists.{concat, all, any, numbered, allStations, upward}
+use Rattle.lists.proofs.Fills.{upward-more, concat-append, concat-one}
+
+pub and-true : (a : Bool) → (a && true) ≡ a
+and-true true = refl
+and-true false = refl
+
+pub and-false : (a : Bool) → (a && false) ≡ false
+and-false true = refl
+and-false false = refl
+
+pub or-false : (a : Bool) → (a || false) ≡ a
+or-false true = refl
+or-false false = refl
+
+pub and-assoc : (a b c : Bool) → (a && b && c) ≡ (a && (b && c))
+and-assoc true b c = refl
+and-assoc false b c = refl
+
+or-assoc : (a b c : Bool) → (a || b || c) ≡ (a || (b || c))
+or-assoc true b c = refl
+or-assoc false b c = refl
+
+-- A test that the position decides, or the entry.
+pub either : (P : Bool → Type 0) (b : Bool) → (b ≡ true → P true) → (b ≡ false → P false) → P b
+either P true p q = p refl
+either P false p q = q refl
+
+module _ {A : Type 0} (test : A → Bool) where
+  pub all-append : (l m : List A) → all test (l ++ m) ≡ (all test l && all test m)
+  unfolding all
+  all-append [] m = refl
+  all-append (x ∷ l) m = rw (all-append l m, and-assoc)
+
+  pub all-more : (l : List A) (x : A) → all test (l ++ (x ∷ [])) ≡ (all test l && test x)
+  unfolding all
+  all-more l x = all-append l (x ∷ []) ∙ rw (and-true (test x))
+
+  pub any-more : (l : List A) (x : A) → any test (l ++ (x ∷ [])) ≡ (any test l || test x)
+  unfolding any
+  any-more [] x = or-false (test x)
+  any-more (y ∷ l) x = rw (any-more l x) (sym (or-assoc (test y) (any test l) (test x)))
+
+  -- Rows end to end, one row more.
+  pub all-rows : (i : ℕ) (f : ℕ → List A) → all test (concat (upward 0 (i + 1) f)) ≡ (all test (concat (upward 0 i f)) && all test (f i))
+  all-rows i f =
+      rw (upward-more i f, concat-append (upward 0 i f) (f i ∷ []), concat-one (f i)) (all-append (concat (upward 0 i f)) (f i))
+
+  -- The entries from place n on: of none, and of one more.
+  pub none-beyond : (n : ℕ) → true ≡ all test (drop n [])
+  unfolding all
+  none-beyond n = rw (drop-nil {A = A} n)
+
+  pub all-beyond : (d : A) (n : ℕ) (l : List A) (k : ℕ) → k < length l → all test (drop n (take (k + 1) l)) ≡ (all test (drop n (take k l)) && (ltb k n || test (getD l k d)))
+  unfolding all
+  all-beyond d n l k h =
+      let long : length (take k l) ≡ k = length-take-le k l (omega arith) in
+      let more : length (take (k + 1) l) ≡ k + 1 = length-take-le (k + 1) l (omega arith) in
+      either (λ b. all test (drop n (take (k + 1) l)) ≡ (all test (drop n (take k l)) && (b || test (getD l k d)))) (ltb k n)
+      (λ e.
+      let low : k < n = ltb-true k n e in
+      rw (drop-of-length-le (take (k + 1) l) {i = n} (omega arith), drop-of-length-le (take k l) {i = n} (omega arith)))
+      (λ e.
+      let high : n ≤ k = ltb-false k n e in
+      rw (add-one, take-suc l k d h, drop-append-le n (take k l) (getD l k d ∷ []) (omega arith)) (all-more (drop n (take k l)) (getD l k d)))
+
+-- A test that does not look at the entries goes before.
+pub or-all : {A : Type 0} (b : Bool) (test : A → Bool) (l : List A) → (b || all test l) ≡ all (λ x. b || test x) l
+unfolding all
+or-all true test [] = refl
+or-all true test (x ∷ l) = or-all true test l
+or-all false test l = refl
+
+pub map-upward : {A B : Type 0} (f : A → B) (k n : ℕ) (g : ℕ → A) → map f (upward k n g) ≡ upward k n (λ i. f (g i))
+unfolding upward
+map-upward f k zero g = refl
+map-upward f k (suc n) g = ap (λ l. f (g k) ∷ l) (map-upward f (suc k) n g)
+
+-- Entries with their numbers.
+module _ {A B : Type 0} (f : ℕ → A → B) where
+  pub length-numbered : (k : ℕ) (l : List A) → length (numbered f k l) ≡ length l
+  unfolding numbered
+  length-numbered k [] = refl
+  length-numbered k (x ∷ l) = ap suc (length-numbered (suc k) l)
+
+  getD-from : (k : ℕ) (l : List A) (i : ℕ) (d : A) (e : B) → i < length l → getD (numbered f k l) i e ≡ f (k + i) (getD l i d)
+  unfolding numbered
+  getD-from k [] i d e h = absurd (omega arith)
+  getD-from k (x ∷ l) zero d e h = rw (add-zero k)
+  getD-from k (x ∷ l) (suc i) d e h =
+      let n : k + suc i ≡ suc k + i = omega arith in
+      rw n (getD-from (suc k) l i d e (omega arith))
+
+  -- At place i stands what station i + 1 has.
+  pub getD-numbered : (l : List A) (i : ℕ) (d : A) (e : B) → i < length l → getD (numbered f 1 l) i e ≡ f (suc i) (getD l i d)
+  getD-numbered l i d e h =
+      let n : suc i ≡ 1 + i = omega arith in
+      rw n (getD-from 1 l i d e h)
+
+  numbered-append : (k : ℕ) (l m : List A) → numbered f k (l ++ m) ≡ numbered f k l ++ numbered f (k + length l) m
+  unfolding numbered
+  numbered-append k [] m = rw (add-zero k)
+  numbered-append k (x ∷ l) m =
+      let n : k + suc (length l) ≡ suc k + length l = omega arith in
+      rw n (ap (λ t. f k x ∷ t) (numbered-append (suc k) l m))
+
+  -- A list that has at each place what the station there has.
+  pub is-numbered : (d : A) (e : B) (l : List A) (r : List B) → length r ≡ length l → ((i : ℕ) → i < length l → getD r i e ≡ f (suc i) (getD l i d)) → r ≡ numbered f 1 l
+  is-numbered d e l r h each =
+      ext-getD e r (numbered f 1 l) (h ∙ sym (length-numbered 1 l)) (λ i g. let j : i < length l = omega arith in each i j ∙ sym (getD-numbered l i d e j))
+
+-- The stations up to n: of no entry, and of one more.
+module _ {A : Type 0} (test : ℕ → A → Bool) where
+  stations-snoc : (l : List A) (x : A) → allStations test (l ++ (x ∷ [])) ≡ (allStations test l && test (suc (length l)) x)
+  unfolding allStations numbered
+  stations-snoc l x =
+      let n : suc (length l) ≡ 1 + length l = omega arith in
+      rw (numbered-append test 1 l (x ∷ []), n) (all-more (λ b. b) (numbered test 1 l) (test (1 + length l) x))
+
+  pub stations-none : (n : ℕ) → true ≡ allStations test (take n [])
+  unfolding allStations numbered all
+  stations-none n = rw (take-nil {A = A} n)
+
+  pub stations-more : (d : A) (n : ℕ) (l : List A) (k : ℕ) → k < length l → allStations test (take n (take (k + 1) l)) ≡ (allStations test (take n (take k l)) && (leb n k || test (suc k) (getD l k d)))
+  stations-more d n l k h =
+      let long : length (take k l) ≡ k = length-take-le k l (omega arith) in
+      let more : length (take (k + 1) l) ≡ k + 1 = length-take-le (k + 1) l (omega arith) in
+      either (λ b. allStations test (take n (take (k + 1) l)) ≡ (allStations test (take n (take k l)) && (b || test (suc k) (getD l k d)))) (leb n k)
+      (λ e.
+      let low : n ≤ k = leb-true n k e in
+      rw (take-take n (k + 1) l (omega arith), take-take n k l low) (sym (and-true (allStations test (take n l)))))
+      (λ e.
+      let high : k < n = leb-false n k e in
+      rw (take-all n (take (k + 1) l) (omega arith), take-all n (take k l) (omega arith), add-one, take-suc l k d h)
+      (stations-snoc (take k l) (getD l k d) ∙ rw long))

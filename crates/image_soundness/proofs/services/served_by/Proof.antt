@@ -1,0 +1,71 @@
+-- The marks so far are those of the records so far.
+use borrow.Author.Needs.{needs}
+use native.Mathlib.Omega.{arith}
+use mathlib.Core.Path.{_≡_, sym, ap, _∙_}
+use Prim.Native.Nat.{_-_, _≤_}
+use lib.ListN.{length}
+use Rattle.model.specs.Lists.{upward}
+use Rattle.model.specs.Layout.{recordPart}
+use Rattle.model.specs.Image.{orderOf}
+use Rattle.lists.proofs.Fills.{length-mapped, upward-more}
+use Rattle.image_soundness.specs.Served.{servedBy, ordersOf}
+use Rattle.image_soundness.proofs.Marks.{served-none, served-more}
+use Rattle.image_soundness.proofs.services.served_by.Statement.{statement}
+use Rattle.image_soundness.proofs.services.served_by.Tie as tie
+
+abbrev Inv-loop : tie.InvT-loop
+Inv-loop image live services served₀ i₀ served i = (i ≤ live) × (served ≡ servedBy services (ordersOf image i))
+
+abbrev μ-loop : tie.MeasureT-loop
+μ-loop image live services served₀ i₀ served i = live - i
+
+long : (c : tie.Start Inv-loop μ-loop) → length (c .args .services) ≡ 8
+long c = search (needs, length-mapped)
+
+loop-holds : tie.Need-loop-holds Inv-loop μ-loop
+unfolding upward
+loop-holds c = (omega arith, served-none _ (long (c .before)))
+
+order-at-requires : tie.Need-order-at-requires Inv-loop μ-loop
+order-at-requires c κs = (omega arith, omega arith)
+
+marked-by-requires : tie.Need-marked-by-requires Inv-loop μ-loop
+marked-by-requires c κs = search needs
+
+add-i : tie.Need-add-i Inv-loop μ-loop
+add-i c = omega arith
+
+loop-less : tie.Need-loop-less Inv-loop μ-loop
+loop-less c = omega arith
+
+loop-again : tie.Need-loop-again Inv-loop μ-loop
+loop-again c =
+    let here = c .before .before .before in
+    let top = here .before .before in
+    let image = top .args .image .now in
+    let i = here .loop .i in
+    let services = top .args .services in (
+      omega arith,
+      c .marked-by .ensures
+          ∙ rw (here .loop .inv .1, c .before .order-at .ensures) (served-more services (long top) (ordersOf image i) (orderOf (recordPart image i)))
+          ∙ ap (servedBy services) (sym (upward-more i (λ k. orderOf (recordPart image k)))),
+    )
+
+returns : tie.Need-returns Inv-loop μ-loop
+returns c =
+    let e : c .before .loop .i ≡ c .before .before .before .args .live = omega arith in
+    rw e at (c .before .loop .inv .1)
+
+pub served-by-spec : {M : Type 1} → statement M
+served-by-spec =
+    tie.close
+    (tie.spec
+    Inv-loop
+    μ-loop
+    loop-holds
+    order-at-requires
+    marked-by-requires
+    add-i
+    loop-less
+    loop-again
+    returns)

@@ -1,0 +1,90 @@
+// "zero bytes and unused records zero"
+ghost use mathlib.Core.Path.{_≡_};
+ghost use Prim.Native.Nat.{_<_, _≤_};
+ghost use lib.ListN.{length};
+ghost use Rattle.model.specs.Limits.{maxStations, maxLive};
+ghost use Rattle.model.specs.Lists.{isZero, all, concat, upward};
+ghost use Rattle.model.specs.Layout.{imageSize};
+ghost use Rattle.model.specs.Image.{liveCount};
+ghost use Rattle.model.specs.Soundness.{zeroBytesZero, unusedRecordsZero};
+ghost use Rattle.image_soundness.specs.Zeros.{serviceZeros, recordZeros};
+use image::layout::HEADER_ZERO_AT;
+use image::layout::IMAGE_SIZE;
+use image::layout::RECORD_SIZE;
+use image::layout::RECORD_ZERO_AT;
+use image::layout::RECORDS_AT;
+use image::layout::SERVICE_SIZE;
+use image::layout::SERVICE_ZERO_AT;
+use image::layout::SERVICES_AT;
+use image::layout::STATION_ZERO_AT;
+use little_endian::read::u16_at;
+use little_endian::read::u32_at;
+
+// The zero bytes of the station entry at place i.
+fn service_zero(image: &[u8], i: usize) -> bool
+    requires { ⌜ (length (now image) ≡ imageSize) × (i < maxStations) ⌝ }
+    ensures { λ r. ⌜ r ≡ all isZero (serviceZeros (now (image .entry)) i) ⌝ }
+{
+    u16_at(image, SERVICES_AT + SERVICE_SIZE * i + SERVICE_ZERO_AT) == 0
+}
+
+// The zero bytes of the record at place i: three after the station, four at the end.
+fn record_zero(image: &[u8], i: usize) -> bool
+    requires { ⌜ (length (now image) ≡ imageSize) × (i < maxLive) ⌝ }
+    ensures { λ r. ⌜ r ≡ all isZero (recordZeros (now (image .entry)) i) ⌝ }
+{
+    let at = RECORDS_AT + RECORD_SIZE * i;
+    (image[at + STATION_ZERO_AT] == 0)
+        & (u16_at(image, at + STATION_ZERO_AT + 1) == 0)
+        & (u32_at(image, at + RECORD_ZERO_AT) == 0)
+}
+
+fn services_zero(image: &[u8]) -> bool
+    requires { ⌜ length (now image) ≡ imageSize ⌝ }
+    ensures { λ r. ⌜ r ≡ all isZero (concat (upward 0 maxStations (serviceZeros (now (image .entry))))) ⌝ }
+{
+    let mut holds = true;
+    let mut i: usize = 0;
+    while i < 8 {
+        holds = holds & service_zero(image, i);
+        i += 1;
+    }
+    holds
+}
+
+fn records_zero(image: &[u8], live: usize) -> bool
+    requires { ⌜ (length (now image) ≡ imageSize) × (live ≤ maxLive) ⌝ }
+    ensures { λ r. ⌜ r ≡ all isZero (concat (upward 0 live (recordZeros (now (image .entry))))) ⌝ }
+{
+    let mut holds = true;
+    let mut i: usize = 0;
+    while i < live {
+        holds = holds & record_zero(image, i);
+        i += 1;
+    }
+    holds
+}
+
+// "zero bytes .. zero". Neither an image with a mark in header byte 7 let through, nor one refused for a byte after the
+// live records, meets the promise.
+pub fn zero_bytes_zero(image: &[u8], live: usize) -> bool
+    requires { ⌜ (length (now image) ≡ imageSize) × (live ≡ liveCount (now image)) × (live ≤ maxLive) ⌝ }
+    ensures { λ r. ⌜ r ≡ zeroBytesZero (now (image .entry)) ⌝ }
+{
+    (image[HEADER_ZERO_AT] == 0) & services_zero(image) & records_zero(image, live)
+}
+
+// "unused records zero". Neither an image whose very last byte is 1 let through, nor one refused for a byte of the last
+// live record, meets the promise.
+pub fn unused_records_zero(image: &[u8], live: usize) -> bool
+    requires { ⌜ (length (now image) ≡ imageSize) × (live ≡ liveCount (now image)) × (live ≤ maxLive) ⌝ }
+    ensures { λ r. ⌜ r ≡ unusedRecordsZero (now (image .entry)) ⌝ }
+{
+    let mut holds = true;
+    let mut i = RECORDS_AT + RECORD_SIZE * live;
+    while i < IMAGE_SIZE {
+        holds = holds & (image[i] == 0);
+        i += 1;
+    }
+    holds
+}

@@ -1,0 +1,2 @@
+-- What the answers tell.
+pub mod QuestionLaws

@@ -1,0 +1,12 @@
+-- Document 01's number for each answer: 0 for done, otherwise the question's.
+use Prim.Native.Nat.{ℕ}
+use Rattle.questions.specs.declared.Answer.{Answer}
+use Rattle.questions.specs.declared.Answer.the-variants.{Passed, ReplyLength, ImageLength, Mark, Unsound, Stations}
+
+abbrev pub numberOf : Answer → ℕ
+numberOf Passed = 0
+numberOf ReplyLength = 1
+numberOf ImageLength = 2
+numberOf Mark = 3
+numberOf Unsound = 4
+numberOf Stations = 14

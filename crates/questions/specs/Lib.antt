@@ -1,0 +1,2 @@
+-- The numbers of the questions.
+pub mod Answer
