@@ -8,7 +8,7 @@ ghost use lib.ListN.{length, take};
 ghost use Rattle.model.specs.Limits.{maxStations, maxLive};
 ghost use Rattle.lists.specs.Stored.{Put};
 ghost use Rattle.text.specs.Decimal.{decimal};
-ghost use Rattle.report.specs.Report.{lineFeed, figure, spaced, serviceWords, stationLine, orderTicks, orderFigures, orderCosts, orderLine, headLines, stationLines, orderLines, stateReport, clauseLine};
+ghost use Rattle.report.specs.Report.{lineFeed, figure, figureLine, spaced, serviceWords, stationLine, orderTicks, orderFigures, orderCosts, orderLine, headLines, stationLines, orderLines, stateReport, clauseLine};
 ghost use Rattle.image.specs.Pipeline.{listed};
 use image::Pipeline;
 use model::Order;
@@ -166,6 +166,14 @@ fn put_head(out: &mut [u8], at: usize, n: u8, clock: u32, next: u32) -> usize
     let a = put_figure_line(out, at, b"stations ", n as u32);
     let b = put_figure_line(out, a, b"clock ", clock);
     put_figure_line(out, b, b"next ", next)
+}
+
+// The first line of every report. Ruled out: the number alone, with no word before it; the number in another base than ten.
+pub fn put_number(out: &mut [u8], at: usize, number: u32) -> usize
+    requires { ⌜ at + length (figureLine "number " number) ≤ length (now out) ⌝ }
+    ensures { λ r. ⌜ Put (now (out .entry)) at (figureLine "number " number) r (now (out .exit)) ⌝ }
+{
+    put_figure_line(out, at, b"number ", number)
 }
 
 // What a sound image says, after the line of its number: the head, the stations in use, the live orders. Ruled out: an order
