@@ -6,7 +6,7 @@ use Rattle.model.specs.Lists.{concat, numbered}
 use Rattle.model.specs.Soundness.{isIdle}
 use Rattle.text.specs.Ascii.{ascii}
 use Rattle.text.specs.Decimal.{digits, decimal}
-use Rattle.report.specs.Report.{listed, serviceWords, stationLine, orderTicks, orderFigures, orderCosts, orderLine, headLines, stationLines, orderLines, stateReport, clauseLine, report}
+use Rattle.report.specs.Report.{spaced, serviceWords, stationLine, orderTicks, orderFigures, orderCosts, orderLine, headLines, stationLines, orderLines, stateReport, clauseLine, report}
 
 abbrev shown : State
 shown =
@@ -29,7 +29,7 @@ shown =
     }
 
 pub sound-printed : report 0 [] shown ≡ ascii "number 0\nstations 2\nclock 1\nnext 2\nstation 1 ticket 1 left 1\nstation 2 idle\norder 1 accepted 0 due 20 sum 3 station 1 ranks 0 0 costs 2 3 maxima 2 3\n"
-unfolding report stateReport headLines stationLines orderLines stationLine serviceWords orderLine orderFigures orderTicks orderCosts listed isIdle concat numbered decimal digits
+unfolding report stateReport headLines stationLines orderLines stationLine serviceWords orderLine orderFigures orderTicks orderCosts spaced isIdle concat numbered decimal digits
 sound-printed = refl
 
 pub unsound-printed : report 4 (ascii "clock-in-range") shown ≡ ascii "number 4\nclause clock-in-range\n"

@@ -13,7 +13,7 @@ use Rattle.model.specs.Soundness.{isIdle}
 use Rattle.text.specs.Ascii.{ascii}
 use Rattle.text.specs.Decimal.{decimal}
 use Rattle.text.proofs.Rows.{map-rows, numbered-rows}
-use Rattle.report.specs.Report.{lineFeed, figure, listed, serviceWords, stationLine, orderTicks, orderFigures, orderCosts, orderLine, headLines, stationLines, orderLines, stateReport, clauseLine}
+use Rattle.report.specs.Report.{lineFeed, figure, spaced, serviceWords, stationLine, orderTicks, orderFigures, orderCosts, orderLine, headLines, stationLines, orderLines, stateReport, clauseLine}
 
 pub words-idle : (e : Service) → isIdle e ≡ true → serviceWords e ≡ ascii " idle"
 unfolding serviceWords
@@ -30,19 +30,19 @@ pub length-station : (k : ℕ) (e : Service) → length (stationLine k e) ≡ 8 
 unfolding stationLine
 length-station k e = simp length-append
 
-pub length-ticks : (o : Order) → length (orderTicks o) ≡ 6 + length (decimal (o .ticket)) + (10 + length (decimal (o .accepted))) + (5 + length (decimal (o .due)))
+pub length-ticks : (ticket accepted due : ℕ) → length (orderTicks ticket accepted due) ≡ 6 + length (decimal ticket) + (10 + length (decimal accepted)) + (5 + length (decimal due))
 unfolding orderTicks
-length-ticks o = simp length-append
+length-ticks ticket accepted due = simp length-append
 
-pub length-figures : (o : Order) → length (orderFigures o) ≡ length (orderTicks o) + (5 + length (decimal (o .sum))) + (9 + length (decimal (o .station)))
+pub length-figures : (o : Order) → length (orderFigures o) ≡ length (orderTicks (o .ticket) (o .accepted) (o .due)) + (5 + length (decimal (o .sum))) + (9 + length (decimal (o .station)))
 unfolding orderFigures
 length-figures o = simp length-append
 
-pub length-costs : (n : ℕ) (o : Order) → length (orderCosts n o) ≡ 6 + length (listed (take n (o .costs))) + (7 + length (listed (take n (o .maxima))))
+pub length-costs : (n : ℕ) (o : Order) → length (orderCosts n o) ≡ 6 + length (spaced (take n (o .costs))) + (7 + length (spaced (take n (o .maxima))))
 unfolding orderCosts
 length-costs n o = simp length-append
 
-pub length-order : (n : ℕ) (o : Order) → length (orderLine n o) ≡ length (orderFigures o) + (6 + length (listed (take n (o .ranks)))) + length (orderCosts n o) + 1
+pub length-order : (n : ℕ) (o : Order) → length (orderLine n o) ≡ length (orderFigures o) + (6 + length (spaced (take n (o .ranks)))) + length (orderCosts n o) + 1
 unfolding orderLine
 length-order n o = simp length-append
 
@@ -71,9 +71,9 @@ stationRow services i = stationLine (i + 1) (getD services i idle)
 abbrev pub orderRow : ℕ → List Order → ℕ → List ℕ
 orderRow n orders i = orderLine n (getD orders i noOrder)
 
-pub listed-rows : (n : ℕ) (vs : List ℕ) → n ≤ length vs → listed (take n vs) ≡ concat (upward 0 n (numberRow vs))
-unfolding listed
-listed-rows n vs h = ap concat (map-rows 0 (figure " ") n vs h)
+pub spaced-rows : (n : ℕ) (vs : List ℕ) → n ≤ length vs → spaced (take n vs) ≡ concat (upward 0 n (numberRow vs))
+unfolding spaced
+spaced-rows n vs h = ap concat (map-rows 0 (figure " ") n vs h)
 
 pub station-rows : (n : ℕ) (services : List Service) → n ≤ length services → stationLines (take n services) ≡ concat (upward 0 n (stationRow services))
 unfolding stationLines

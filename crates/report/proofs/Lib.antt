@@ -1,5 +1,4 @@
 -- Laws of the printed text.
 pub mod Lengths
 pub mod Room
-pub mod Images
 pub mod Example

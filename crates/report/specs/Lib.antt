@@ -1,3 +1,2 @@
--- What `inspect` prints, and of which states.
+-- What `inspect` prints of an image.
 pub mod Report
-pub mod Ranges

@@ -25,8 +25,8 @@ abbrev pub figureLine : String → ℕ → List ℕ
 figureLine word v = figure word v ++ lineFeed
 
 -- Numbers, each after a space.
-unfoldable pub listed : List ℕ → List ℕ
-listed vs = concat (map (figure " ") vs)
+unfoldable pub spaced : List ℕ → List ℕ
+spaced vs = concat (map (figure " ") vs)
 
 -- `station 2 ticket 7 left 3`, or `station 2 idle`
 unfoldable pub serviceWords : Service → List ℕ
@@ -36,17 +36,17 @@ unfoldable pub stationLine : ℕ → Service → List ℕ
 stationLine k e = figure "station " k ++ serviceWords e ++ lineFeed
 
 -- `order 7 accepted 5 due 25 sum 5 station 2 ranks 0 0 costs 2 3 maxima 2 3`: of ranks, costs and maxima those of the n stations.
-unfoldable pub orderTicks : Order → List ℕ
-orderTicks o = figure "order " (o .ticket) ++ figure " accepted " (o .accepted) ++ figure " due " (o .due)
+unfoldable pub orderTicks : ℕ → ℕ → ℕ → List ℕ
+orderTicks ticket accepted due = figure "order " ticket ++ figure " accepted " accepted ++ figure " due " due
 
 unfoldable pub orderFigures : Order → List ℕ
-orderFigures o = orderTicks o ++ figure " sum " (o .sum) ++ figure " station " (o .station)
+orderFigures o = orderTicks (o .ticket) (o .accepted) (o .due) ++ figure " sum " (o .sum) ++ figure " station " (o .station)
 
 unfoldable pub orderCosts : ℕ → Order → List ℕ
-orderCosts n o = ascii " costs" ++ listed (take n (o .costs)) ++ (ascii " maxima" ++ listed (take n (o .maxima)))
+orderCosts n o = ascii " costs" ++ spaced (take n (o .costs)) ++ (ascii " maxima" ++ spaced (take n (o .maxima)))
 
 unfoldable pub orderLine : ℕ → Order → List ℕ
-orderLine n o = orderFigures o ++ (ascii " ranks" ++ listed (take n (o .ranks))) ++ orderCosts n o ++ lineFeed
+orderLine n o = orderFigures o ++ (ascii " ranks" ++ spaced (take n (o .ranks))) ++ orderCosts n o ++ lineFeed
 
 -- What a sound image says: the head, a line for each of its n stations, a line for each live order.
 unfoldable pub headLines : ℕ → ℕ → ℕ → List ℕ
@@ -61,11 +61,6 @@ orderLines n orders = concat (map (orderLine n) orders)
 unfoldable pub stateReport : State → List ℕ
 stateReport s =
     headLines (s .n) (s .clock) (s .next) ++ stationLines (take (s .n) (s .services)) ++ orderLines (s .n) (s .orders)
-
--- The state that code holds in parts: of the 32 records, the live ones.
-abbrev pub held : ℕ → ℕ → ℕ → List Service → ℕ → List Order → State
-held n clock next services live orders =
-    record { n = n; clock = clock; next = next; services = services; orders = take live orders }
 
 -- Which clause of "Sound means" an image breaks, by the clause's name.
 unfoldable pub clauseLine : List ℕ → List ℕ

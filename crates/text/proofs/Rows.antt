@@ -3,8 +3,8 @@
 use mathlib.Core.Path.{_≡_, refl, _∙_}
 use mathlib.Core.List.{List, [], _∷_, _++_, map}
 use mathlib.Core.Logic.{⊎-elim}
-use Prim.Native.Nat.{ℕ, zero, suc, _+_, _≤_, _<_}
-use native.Mathlib.Nat.{add-zero, eq-or-lt-of-le, le-of-suc-le-suc}
+use Prim.Native.Nat.{ℕ, zero, suc, _+_, _*_, _≤_, _<_}
+use native.Mathlib.Nat.{add-zero, mul-suc, eq-or-lt-of-le, le-of-suc-le-suc}
 use native.Mathlib.Numerals.{add-one}
 use native.Mathlib.Omega.{arith}
 use lib.ListN.{length, getD, take, length-append}
@@ -43,6 +43,13 @@ module _ (row : ℕ → List ℕ) where
   -- Room for all the rows is room for the next one.
   pub printed-room : {l m : List ℕ} {at j i : ℕ} (n : ℕ) → Put l at (concat (upward 0 i row)) j m → i < n → at + length (concat (upward 0 n row)) ≤ length l → j + length (row i) ≤ length m
   printed-room {i = i} n p h room = omega (arith, p .place, put-length p, room-more i n h)
+
+  -- Rows of at most `size` bytes each.
+  pub rows-at-most : (size n : ℕ) → ((i : ℕ) → i < n → length (row i) ≤ size) → length (concat (upward 0 n row)) ≤ size * n
+  unfolding upward concat
+  rows-at-most size zero each = omega arith
+  rows-at-most size (suc n) each =
+      omega (arith, length-more n, mul-suc size n, each n (omega arith), rows-at-most size n (λ i h. each i (omega arith)))
 
 module _ {A B : Type 0} where
   numbered-none : (f : ℕ → A → B) (l : List A) (row : ℕ → B) → numbered f 1 (take 0 l) ≡ upward 0 0 row

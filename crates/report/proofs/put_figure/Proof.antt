@@ -20,7 +20,10 @@ same-length : tie.Need-same-length
 same-length c = omega arith
 
 returns : tie.Need-returns
-returns c = put-then (c .before .before .before .before .before .before .put-bytes .ensures) (c .before .before .put-decimal .ensures)
+returns c =
+    put-then
+    (c .before .before .before .before .before .before .put-bytes .ensures)
+    (c .before .before .put-decimal .ensures)
 
 pub put-figure-spec : {M : Type 1} → statement M
 put-figure-spec = tie.close (tie.spec put-bytes-requires put-decimal-requires same-length returns)

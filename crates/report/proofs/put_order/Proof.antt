@@ -11,11 +11,11 @@ put-order-figures-requires c κs =
     let a = c .before .before .before .args in
     omega (arith, length-order (a .n) (a .o))
 
-slice-aggregate-put-bytes-listed : tie.Need-slice-aggregate-put-bytes-listed
-slice-aggregate-put-bytes-listed c = omega arith
+slice-aggregate-put-bytes-spaced : tie.Need-slice-aggregate-put-bytes-spaced
+slice-aggregate-put-bytes-spaced c = omega arith
 
-put-bytes-listed-requires : tie.Need-put-bytes-listed-requires
-put-bytes-listed-requires c κs =
+put-bytes-spaced-requires : tie.Need-put-bytes-spaced-requires
+put-bytes-spaced-requires c κs =
     let a = c .before .before .before .before .before .before .before .before .args in
     (omega arith, omega (arith, length-order (a .n) (a .o)))
 
@@ -36,7 +36,7 @@ returns : tie.Need-returns
 unfolding orderLine
 returns c =
     put-then
-    (put-then (put-then (c .before .before .before .before .before .before .before .before .before .before .before .before .before .before .before .put-order-figures .ensures) (c .before .before .before .before .before .before .before .before .before .before .put-bytes-listed .ensures)) (c .before .before .before .before .before .before .put-order-costs .ensures))
+    (put-then (put-then (c .before .before .before .before .before .before .before .before .before .before .before .before .before .before .before .put-order-figures .ensures) (c .before .before .before .before .before .before .before .before .before .before .put-bytes-spaced .ensures)) (c .before .before .before .before .before .before .put-order-costs .ensures))
     (c .before .before .put-byte .ensures)
 
 pub put-order-spec : {M : Type 1} → statement M
@@ -44,8 +44,8 @@ put-order-spec =
     tie.close
     (tie.spec
     put-order-figures-requires
-    slice-aggregate-put-bytes-listed
-    put-bytes-listed-requires
+    slice-aggregate-put-bytes-spaced
+    put-bytes-spaced-requires
     put-order-costs-requires
     put-byte-requires
     same-length

@@ -6,19 +6,19 @@ use Rattle.report.proofs.Lengths.{length-costs}
 use Rattle.report.proofs.put_order_costs.Statement.{statement}
 use Rattle.report.proofs.put_order_costs.Tie as tie
 
-slice-aggregate-put-halves-listed : tie.Need-slice-aggregate-put-halves-listed
-slice-aggregate-put-halves-listed c = omega arith
+slice-aggregate-put-halves-spaced : tie.Need-slice-aggregate-put-halves-spaced
+slice-aggregate-put-halves-spaced c = omega arith
 
-put-halves-listed-requires : tie.Need-put-halves-listed-requires
-put-halves-listed-requires c κs =
+put-halves-spaced-requires : tie.Need-put-halves-spaced-requires
+put-halves-spaced-requires c κs =
     let a = c .before .before .before .before .before .args in
     (omega arith, omega (arith, length-costs (a .n) (a .o)))
 
-slice-aggregate-put-halves-listed-2 : tie.Need-slice-aggregate-put-halves-listed-2
-slice-aggregate-put-halves-listed-2 c = omega arith
+slice-aggregate-put-halves-spaced-2 : tie.Need-slice-aggregate-put-halves-spaced-2
+slice-aggregate-put-halves-spaced-2 c = omega arith
 
-put-halves-listed-requires-2 : tie.Need-put-halves-listed-requires-2
-put-halves-listed-requires-2 c κs =
+put-halves-spaced-requires-2 : tie.Need-put-halves-spaced-requires-2
+put-halves-spaced-requires-2 c κs =
     let a = c .before .before .before .before .before .before .before .before .before .before .args in
     (omega arith, omega (arith, length-costs (a .n) (a .o)))
 
@@ -27,15 +27,15 @@ same-length c = omega arith
 
 returns : tie.Need-returns
 unfolding orderCosts
-returns c = put-then (c .before .before .before .before .before .before .before .put-halves-listed .ensures) (c .before .before .put-halves-listed2 .ensures)
+returns c = put-then (c .before .before .before .before .before .before .before .put-halves-spaced .ensures) (c .before .before .put-halves-spaced2 .ensures)
 
 pub put-order-costs-spec : {M : Type 1} → statement M
 put-order-costs-spec =
     tie.close
     (tie.spec
-    slice-aggregate-put-halves-listed
-    put-halves-listed-requires
-    slice-aggregate-put-halves-listed-2
-    put-halves-listed-requires-2
+    slice-aggregate-put-halves-spaced
+    put-halves-spaced-requires
+    slice-aggregate-put-halves-spaced-2
+    put-halves-spaced-requires-2
     same-length
     returns)

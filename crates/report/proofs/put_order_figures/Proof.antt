@@ -14,23 +14,17 @@ put-order-ticks-requires c κs =
 slice-aggregate-put-figure : tie.Need-slice-aggregate-put-figure
 slice-aggregate-put-figure c = omega arith
 
-cast-put-figure : tie.Need-cast-put-figure
-cast-put-figure c = omega arith
-
 put-figure-requires : tie.Need-put-figure-requires
 put-figure-requires c κs =
-    let a = c .before .before .before .before .before .before .before .before .args in
+    let a = c .before .before .before .before .before .before .before .args in
     omega (arith, length-figures (a .o))
 
 slice-aggregate-put-figure-2 : tie.Need-slice-aggregate-put-figure-2
 slice-aggregate-put-figure-2 c = omega arith
 
-cast-put-figure-2 : tie.Need-cast-put-figure-2
-cast-put-figure-2 c = omega arith
-
 put-figure-requires-2 : tie.Need-put-figure-requires-2
 put-figure-requires-2 c κs =
-    let a = c .before .before .before .before .before .before .before .before .before .before .before .before .before .before .args in
+    let a = c .before .before .before .before .before .before .before .before .before .before .before .before .args in
     omega (arith, length-figures (a .o))
 
 same-length : tie.Need-same-length
@@ -40,19 +34,8 @@ returns : tie.Need-returns
 unfolding orderFigures
 returns c =
     put-then
-    (put-then (c .before .before .before .before .before .before .before .before .before .before .before .before .before .before .put-order-ticks .ensures) (c .before .before .before .before .before .before .before .before .put-figure .ensures))
+    (put-then (c .before .before .before .before .before .before .before .before .before .before .before .before .put-order-ticks .ensures) (c .before .before .before .before .before .before .before .put-figure .ensures))
     (c .before .before .put-figure2 .ensures)
 
 pub put-order-figures-spec : {M : Type 1} → statement M
-put-order-figures-spec =
-    tie.close
-    (tie.spec
-    put-order-ticks-requires
-    slice-aggregate-put-figure
-    cast-put-figure
-    put-figure-requires
-    slice-aggregate-put-figure-2
-    cast-put-figure-2
-    put-figure-requires-2
-    same-length
-    returns)
+put-order-figures-spec = tie.close (tie.spec put-order-ticks-requires slice-aggregate-put-figure put-figure-requires slice-aggregate-put-figure-2 put-figure-requires-2 same-length returns)

@@ -29,26 +29,19 @@ returns c =
 slice-aggregate-put-figure : tie.Need-slice-aggregate-put-figure
 slice-aggregate-put-figure c = omega arith
 
-cast-put-figure : tie.Need-cast-put-figure
-cast-put-figure c = omega arith
-
 put-figure-requires : tie.Need-put-figure-requires
 unfolding isIdle
-put-figure-requires c κs =
-    let e = c .before .before .before .before .before .before .before .args .e in
-    omega (arith, length-busy e (c .before .before .before .if1 .left))
+put-figure-requires c κs = omega (arith, length-busy (c .before .before .before .before .before .before .args .e) (c .before .before .if1 .left))
 
 slice-aggregate-put-figure-2 : tie.Need-slice-aggregate-put-figure-2
 slice-aggregate-put-figure-2 c = omega arith
 
-cast-put-figure-2 : tie.Need-cast-put-figure-2
-cast-put-figure-2 c = omega arith
+cast-put-figure : tie.Need-cast-put-figure
+cast-put-figure c = omega arith
 
 put-figure-requires-2 : tie.Need-put-figure-requires-2
 unfolding isIdle
-put-figure-requires-2 c κs =
-    let e = c .before .before .before .before .before .before .before .before .before .before .before .before .before .args .e in
-    omega (arith, length-busy e (c .before .before .before .before .before .before .before .before .before .if1 .left))
+put-figure-requires-2 c κs = omega (arith, length-busy (c .before .before .before .before .before .before .before .before .before .before .before .before .args .e) (c .before .before .before .before .before .before .before .before .if1 .left))
 
 same-length-2 : tie.Need-same-length-2
 same-length-2 c = omega arith
@@ -56,8 +49,8 @@ same-length-2 c = omega arith
 returns-2 : tie.Need-returns-2
 unfolding isIdle
 returns-2 c =
-    let e = c .before .before .before .before .before .before .before .before .before .before .before .before .before .before .before .before .args .e in
-    rw (words-busy e (c .before .before .before .before .before .before .before .before .before .before .before .before .if1 .left)) (put-then (c .before .before .before .before .before .before .before .before .put-figure .ensures) (c .before .before .put-figure2 .ensures))
+    rw (words-busy (c .before .before .before .before .before .before .before .before .before .before .before .before .before .before .before .args .e) (c .before .before .before .before .before .before .before .before .before .before .before .if1 .left))
+    (put-then (c .before .before .before .before .before .before .before .before .put-figure .ensures) (c .before .before .put-figure2 .ensures))
 
 pub put-service-spec : {M : Type 1} → statement M
 put-service-spec =
@@ -68,10 +61,9 @@ put-service-spec =
     same-length
     returns
     slice-aggregate-put-figure
-    cast-put-figure
     put-figure-requires
     slice-aggregate-put-figure-2
-    cast-put-figure-2
+    cast-put-figure
     put-figure-requires-2
     same-length-2
     returns-2)

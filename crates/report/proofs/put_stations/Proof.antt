@@ -25,6 +25,9 @@ mul-e c = omega arith
 array-copy-out-e : tie.Need-array-copy-out-e Inv-loop μ-loop
 array-copy-out-e c = omega arith
 
+cast-put-station : tie.Need-cast-put-station Inv-loop μ-loop
+cast-put-station c = omega arith
+
 add-put-station : tie.Need-add-put-station Inv-loop μ-loop
 add-put-station c = omega arith
 
@@ -59,6 +62,7 @@ put-stations-spec =
     loop-holds
     mul-e
     array-copy-out-e
+    cast-put-station
     add-put-station
     put-station-requires
     add-i

@@ -1,0 +1,43 @@
+-- What `inspect` prints of bytes that may be an image: the number that questions 2 to 4 give them; of a sound image what it says, of one that breaks a
+-- clause of "Sound means" the first such clause by name.
+use mathlib.Core.Path.{_≡_}
+use mathlib.Core.List.{List, []}
+use Prim.Native.Nat.{ℕ, _≤_}
+use lib.ListN.{length, take}
+use Rattle.model.specs.Image.{decode}
+use Rattle.model.specs.Questions.{firstNo}
+use Rattle.model.specs.Calls.{imageQuestions}
+use Rattle.text.specs.Ascii.{ascii}
+use Rattle.report.specs.Report.{report}
+use Rattle.soundness.specs.declared.Flaw.{Flaw}
+use Rattle.soundness.specs.declared.Flaw.the-variants.{Nothing, StationCount, LiveCount, Clock, ZeroBytes, UnusedRecords, Tickets, Acceptance, Due, Station, Costs, Maxima, Sum, OnTime, Beyond, Services}
+use Rattle.soundness.specs.Flaw.{firstFlaw}
+use Rattle.inspection.specs.declared.Name.{Name}
+
+-- The clauses by name, in document 01's order.
+abbrev pub flawName : Flaw → List ℕ
+flawName Nothing = []
+flawName StationCount = ascii "station-count"
+flawName LiveCount = ascii "live-count"
+flawName Clock = ascii "clock"
+flawName ZeroBytes = ascii "zero-bytes"
+flawName UnusedRecords = ascii "unused-records"
+flawName Tickets = ascii "tickets"
+flawName Acceptance = ascii "acceptance"
+flawName Due = ascii "due"
+flawName Station = ascii "station"
+flawName Costs = ascii "costs"
+flawName Maxima = ascii "maxima"
+flawName Sum = ascii "sum"
+flawName OnTime = ascii "on-time"
+flawName Beyond = ascii "beyond"
+flawName Services = ascii "services"
+
+-- A name as the code holds it.
+pub record Named (name : List ℕ) (r : Name) : Type 0 where
+  pub inside : r .1 ≤ length (r .0)
+  pub short : r .1 ≤ 14
+  pub is : take (r .1) (r .0) ≡ name
+
+unfoldable pub explained : List ℕ → List ℕ
+explained image = report (firstNo (imageQuestions image)) (flawName (firstFlaw image)) (decode image)

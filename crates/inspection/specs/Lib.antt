@@ -1,0 +1,2 @@
+-- What `inspect` prints.
+pub mod Explained
