@@ -27,7 +27,7 @@ wide-requires-4 c κs = search needs
 
 returns : tie.Need-returns
 unfolding onTime boundTick delayBound
-returns c = cc
+returns c = rw (c .before .before .before .before .wide .ensures .0, c .before .before .before .wide2 .ensures .0, c .before .wide3 .ensures .0, c .before .before .before-last .ensures .0, c .wide4 .ensures .0)
 
 pub on-time-spec : {M : Type 1} → statement M
 on-time-spec =

@@ -29,7 +29,16 @@ zero-beyond-requires c κs = search needs
 
 returns : tie.Need-returns
 unfolding testsOf maximaInRange maximaHold
-returns c = cc
+returns c =
+    rw (
+      c .before .before .before .before .before .before .due-in-range .ensures,
+      c .before .before .before .before .before .station-in-use .ensures,
+      c .before .before .before .before .costs-in-range .ensures,
+      c .before .before .before .maxima-in-range .ensures,
+      c .before .before .sum-in-range .ensures,
+      c .before .on-time .ensures,
+      c .zero-beyond .ensures,
+    )
 
 pub tested-spec : {M : Type 1} → statement M
 tested-spec =

@@ -15,7 +15,7 @@ zero-beyond-requires-2 c κs = search needs
 
 returns : tie.Need-returns
 unfolding recordZeroBeyond
-returns c = cc
+returns c = rw (c .before .before .ranks-zero-beyond .ensures, c .before .zero-beyond .ensures, c .zero-beyond2 .ensures)
 
 pub zero-beyond-spec : {M : Type 1} → statement M
 zero-beyond-spec =
