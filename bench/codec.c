@@ -86,3 +86,15 @@ void encode(uint8_t image[restrict IMAGE_SIZE], const struct cabinet *restrict c
         encode_order(image + 80 + 64 * k, &cabinet->orders[k]);
     memset(image + 80 + 64 * cabinet->live, 0, (size_t)(ORDERS - cabinet->live) * 64);
 }
+
+struct cabinet decoded(const uint8_t image[IMAGE_SIZE])
+{
+    struct cabinet cabinet;
+    decode(&cabinet, image);
+    return cabinet;
+}
+
+void encode_value(uint8_t image[IMAGE_SIZE], struct cabinet cabinet)
+{
+    encode(image, &cabinet);
+}

@@ -1,5 +1,4 @@
 -- Laws that the clauses share.
-pub mod Tests
 pub mod Parts
 pub mod Rising
 pub mod Marks

@@ -14,10 +14,14 @@ use Rattle.model.specs.Lists.{at, within, any, numbered}
 use Rattle.model.specs.State.{idle}
 use Rattle.model.specs.Soundness.{serves}
 use Rattle.image_soundness.specs.Served.{servedBy, markedBy}
-use Rattle.image_soundness.proofs.Tests.{and-true, and-false, or-false, either, any-more, length-numbered, getD-numbered, is-numbered}
+use Rattle.lists.proofs.Tests.{and-true, and-false, or-false, either, any-more, length-numbered, getD-numbered, is-numbered}
 
-pub in-range : (x : ℕ) → within 1 8 x ≡ true → (1 ≤ x) × (x ≤ 8)
-in-range x h = let both = and-eq-true-iff (leb 1 x) (leb x 8) .0 h in (leb-true 1 x (both .0), leb-true x 8 (both .1))
+-- A station of the eight, and its place.
+pub in-range : (k : ℕ) → within 1 8 k ≡ true → (1 ≤ k) × (k ≤ 8)
+in-range k h = let both = and-eq-true-iff (leb 1 k) (leb k 8) .0 h in (leb-true 1 k (both .0), leb-true k 8 (both .1))
+
+pub place : (k : ℕ) → within 1 8 k ≡ true → k - 1 < 8
+place k h = let range = in-range k h in omega arith
 
 module _ (services : List Service) (eight : length services ≡ 8) where
   pub served-none : replicate 8 false ≡ servedBy services []
@@ -43,6 +47,7 @@ module _ (services : List Service) (eight : length services ≡ 8) where
       ∙ rw (served-at l i (omega arith)) (sym (any-more (serves (suc i) (getD services i idle)) l o)))
 
   module _ (marks : List Bool) (all-eight : length marks ≡ 8) (o : Order) where
+    -- An order serves no entry of another station.
     elsewhere : (k : ℕ) (e : Service) → (o .station ≡ k → ⊥) → serves k e o ≡ false
     unfolding serves
     elsewhere k e h = rw (ne-eqb (o .station) k h, and-false)
@@ -61,14 +66,16 @@ module _ (services : List Service) (eight : length services ≡ 8) where
         rw (elsewhere (suc i) (getD services i idle) (outside h (suc i) (omega arith) (omega arith)))
         (sym (or-false (getD marks i false))))
 
-    -- Whether the order is the one of an entry, with ticks to go from 1 to the cost at place k.
+    -- Whether the entry at place k has the order's ticket, and ticks to go from 1 to its cost there.
     abbrev pub fits : ℕ → Bool
     fits k = eqb (o .ticket) (getD services k idle .ticket) && within 1 (getD (o .costs) k 0) (getD services k idle .left)
 
+    -- At its own station that is the test.
     here : (i : ℕ) → eqb (o .station) (suc i) ≡ true → fits i ≡ serves (suc i) (getD services i idle) o
     unfolding serves
     here i e = rw (e, and-true (eqb (o .ticket) (getD services i idle .ticket)))
 
+    -- An order at one of them.
     pub marked-own : within 1 8 (o .station) ≡ true → set marks (o .station - 1) (getD marks (o .station - 1) false || fits (o .station - 1)) ≡ markedBy services o marks
     unfolding markedBy
     marked-own h =

@@ -12,7 +12,7 @@ use lib.Dec.{eqb, eqb·suc-zero}
 use borrow.Author.Tests.{ne-eqb}
 use Rattle.model.specs.Lists.{part, isZero, all}
 use Rattle.model.specs.Bytes.{byte, half, word}
-use Rattle.image_soundness.proofs.Tests.{and-true, all-append}
+use Rattle.lists.proofs.Tests.{and-true, all-append}
 
 module _ {A : Type 0} where
   part-front : (l : List A) (b m n : ℕ) → b + m ≤ n → part (take n l) b m ≡ part l b m

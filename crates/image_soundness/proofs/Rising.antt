@@ -14,7 +14,7 @@ use Rattle.model.specs.Layout.{nextAt, recordsAt, recordSize, ticketAt, recordP
 use Rattle.model.specs.Image.{liveCount, orderOf, decode}
 use Rattle.model.specs.Soundness.{rising, ticketsInOrder}
 use Rattle.lists.proofs.Fills.{upward-more, upward-same}
-use Rattle.image_soundness.proofs.Tests.{and-assoc, and-false, either, all-more, or-all, map-upward}
+use Rattle.lists.proofs.Tests.{and-assoc, and-false, either, all-more, or-all, upward-map}
 use Rattle.image_soundness.proofs.Parts.{word-part}
 
 -- Each number above the one before it, the first above a.
@@ -89,7 +89,7 @@ tickets-decoded : (image : List ℕ) → tickets image (liveCount image) ≡ map
 unfolding decode orderOf
 tickets-decoded image =
     sym
-    (map-upward (λ (o : Order). o .ticket) 0 (liveCount image) (λ k. orderOf (recordPart image k))
+    (upward-map (λ (o : Order). o .ticket) 0 (liveCount image) (λ k. orderOf (recordPart image k))
     ∙ upward-same (liveCount image) (λ k. orderOf (recordPart image k) .ticket) (ticketOf image)
     (λ k h. word-part image (recordsAt + recordSize * k) recordSize ticketAt (omega arith)))
 

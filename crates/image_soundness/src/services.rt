@@ -14,6 +14,7 @@ use image::decode::order_at;
 use model::Order;
 use model::Service;
 
+// "idle (0, 0)"
 fn idle(e: Service) -> bool
     ensures { λ r. ⌜ r ≡ isIdle e ⌝ }
 {
@@ -35,21 +36,21 @@ pub fn idle_beyond(n: u32, services: [Service; 8]) -> bool
     holds
 }
 
-// The stations that an order marks as served: its own, if the entry there has its ticket and ticks to go from 1 to its cost.
-fn marked_by(served: [bool; 8], services: [Service; 8], o: Order) -> [bool; 8]
-    ensures { λ r. ⌜ r ≡ markedBy services o served ⌝ }
+// Marks an order's station as served, if the entry there has its ticket and ticks to go from 1 to its cost. In place:
+// copies of the marks for each record would take longer than the tests.
+fn mark(served: &mut [bool; 8], services: [Service; 8], o: Order)
+    requires { ⌜ length (now served) ≡ maxStations ⌝ }
+    ensures { λ _. ⌜ now (served .exit) ≡ markedBy services o (now (served .entry)) ⌝ }
 {
-    let mut marked = served;
     let costs = o.costs;
     if (1 <= o.station) & (o.station <= 8) {
         let k = (o.station - 1) as usize;
         let e = services[k];
-        marked[k] = marked[k] | ((o.ticket == e.ticket) & ((1 <= e.left) & (e.left <= costs[k])));
+        served[k] = served[k] | ((o.ticket == e.ticket) & ((1 <= e.left) & (e.left <= costs[k])));
     }
-    marked
 }
 
-// One pass over the live records, in place of a search for each station.
+// The stations whose entries the live records serve: one pass over the records, in place of a search for each station.
 fn served_by(image: &[u8], live: usize, services: [Service; 8]) -> [bool; 8]
     requires { ⌜ (length (now image) ≡ imageSize) × (live ≤ maxLive) ⌝ }
     ensures { λ r. ⌜ r ≡ servedBy services (ordersOf (now (image .entry)) live) ⌝ }
@@ -58,8 +59,7 @@ fn served_by(image: &[u8], live: usize, services: [Service; 8]) -> [bool; 8]
     let mut i: usize = 0;
     while i < live {
         let o = order_at(image, i);
-        let next = marked_by(served, services, o);
-        served = next;
+        mark(&mut served, services, o);
         i += 1;
     }
     served

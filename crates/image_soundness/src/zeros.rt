@@ -39,6 +39,7 @@ fn record_zero(image: &[u8], i: usize) -> bool
         & (u32_at(image, at + RECORD_ZERO_AT) == 0)
 }
 
+// Those of all station entries, and of all live records.
 fn services_zero(image: &[u8]) -> bool
     requires { ⌜ length (now image) ≡ imageSize ⌝ }
     ensures { λ r. ⌜ r ≡ all isZero (concat (upward 0 maxStations (serviceZeros (now (image .entry))))) ⌝ }
@@ -65,7 +66,7 @@ fn records_zero(image: &[u8], live: usize) -> bool
     holds
 }
 
-// "zero bytes .. zero". Neither an image with a mark in header byte 7 let through, nor one refused for a byte after the
+// "zero bytes .. zero". Neither an image with a 1 in header byte 7 let through, nor one refused for a byte after the
 // live records, meets the promise.
 pub fn zero_bytes_zero(image: &[u8], live: usize) -> bool
     requires { ⌜ (length (now image) ≡ imageSize) × (live ≡ liveCount (now image)) × (live ≤ maxLive) ⌝ }
@@ -74,8 +75,8 @@ pub fn zero_bytes_zero(image: &[u8], live: usize) -> bool
     (image[HEADER_ZERO_AT] == 0) & services_zero(image) & records_zero(image, live)
 }
 
-// "unused records zero". Neither an image whose very last byte is 1 let through, nor one refused for a byte of the last
-// live record, meets the promise.
+// "unused records zero". Neither an image of 31 live records whose last byte is 1 let through, nor one refused for a byte
+// of the last live record, meets the promise. No early exit, so that a compiler can take many bytes together.
 pub fn unused_records_zero(image: &[u8], live: usize) -> bool
     requires { ⌜ (length (now image) ≡ imageSize) × (live ≡ liveCount (now image)) × (live ≤ maxLive) ⌝ }
     ensures { λ r. ⌜ r ≡ unusedRecordsZero (now (image .entry)) ⌝ }

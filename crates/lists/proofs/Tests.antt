@@ -1,174 +1,227 @@
--- Tests, sums and the largest of a list with one more entry at its end: what a loop over the entries keeps. Of a row, n entries are in use: the loop over
--- all of them tests that beside the entry.
+-- Tests of a list's entries, as a loop makes them: with one entry more the test is the one so far and that of the entry. Over any test and any type. Of a
+-- row, the first n entries are in use: the loop over all of them tests that beside the entry. The same for the largest entry and for sums.
 use mathlib.Core.Path.{_≡_, refl, sym, ap, _∙_}
-use mathlib.Core.Bool.{Bool, true, false, cond, _&&_, _||_}
-use mathlib.Core.List.{List, [], _∷_, _++_}
+use mathlib.Core.Bool.{Bool, true, false, not, cond, _&&_, _||_}
+use mathlib.Core.List.{List, [], _∷_, _++_, map}
 use Prim.Native.Nat.{ℕ, zero, suc, _+_, _-_, _≤_, _<_, max}
 use native.Mathlib.Nat.{add-zero}
 use native.Mathlib.Numerals.{add-one}
 use native.Mathlib.Omega.{arith}
 use lib.ListN.{length, getD, take, drop, drop-of-length-le}
+use lib.Seq.{take-nil, drop-nil, take-suc, take-all, take-take, length-take-le, drop-append-le, ext-getD}
 use lib.Dec.{leb, ltb}
-use lib.Seq.{take-nil, drop-nil, take-suc, take-all, take-take, length-take-le, drop-append-le}
-use borrow.Author.Tests.{leb-true, leb-false, ltb-true, ltb-false, lt-ltb, le-ltb}
-use Rattle.model.specs.Lists.{total, largest, all, numbered, allStations, upward}
-use Rattle.lists.proofs.Fills.{upward-more}
+use borrow.Author.Tests.{ltb-true, ltb-false, leb-true, leb-false, lt-ltb, le-ltb, lt-leb, le-leb}
+use Rattle.model.specs.Lists.{within, total, largest, concat, all, any, numbered, allStations, upward}
+use Rattle.lists.proofs.Fills.{upward-more, concat-append, concat-one}
 
-and-true : (b : Bool) → b ≡ (b && true)
+pub and-true : (a : Bool) → (a && true) ≡ a
 and-true true = refl
 and-true false = refl
 
-and-assoc : (a b c : Bool) → (a && (b && c)) ≡ ((a && b) && c)
+pub and-false : (a : Bool) → (a && false) ≡ false
+and-false true = refl
+and-false false = refl
+
+pub or-false : (a : Bool) → (a || false) ≡ a
+or-false true = refl
+or-false false = refl
+
+pub and-assoc : (a b c : Bool) → (a && b && c) ≡ (a && (b && c))
 and-assoc true b c = refl
 and-assoc false b c = refl
+
+or-assoc : (a b c : Bool) → (a || b || c) ≡ (a || (b || c))
+or-assoc true b c = refl
+or-assoc false b c = refl
 
 pub and-both : (a b : Bool) → (a && b) ≡ true → (a ≡ true) × (b ≡ true)
 and-both true b h = (refl, h)
 and-both false b h = (h, cc)
 
+-- By the two cases of a test.
+pub either : (P : Bool → Type 0) (b : Bool) → (b ≡ true → P true) → (b ≡ false → P false) → P b
+either P true p q = p refl
+either P false p q = q refl
+
+-- One more of a row, of which the first n are in use.
 module _ {A : Type 0} where
-  -- The first k + 1 of a list, and of those in use.
-  take-more : (d : A) (l : List A) (k : ℕ) → k < length l → take (k + 1) l ≡ take k l ++ (getD l k d ∷ [])
-  take-more d l k h = rw add-one (take-suc l k d h)
+  used-same : (l : List A) (n k : ℕ) → k < length l → k < n → take n (take k l) ≡ take k l
+  used-same l n k h u = take-all n (take k l) (omega (arith, length-take-le k l (omega arith)))
 
   used-more : (d : A) (l : List A) (n k : ℕ) → k < length l → k < n → take n (take (k + 1) l) ≡ take k l ++ (getD l k d ∷ [])
   used-more d l n k h u =
-      take-all n (take (k + 1) l) (omega (arith, length-take-le (k + 1) l (omega arith))) ∙ take-more d l k h
-
-  used-same : (l : List A) (n k : ℕ) → k < length l → k < n → take n (take k l) ≡ take k l
-  used-same l n k h u = take-all n (take k l) (omega (arith, length-take-le k l (omega arith)))
+      take-all n (take (k + 1) l) (omega (arith, length-take-le (k + 1) l (omega arith))) ∙ rw (add-one, take-suc l k d h)
 
   unused-same : (l : List A) (n k : ℕ) → n ≤ k → take n (take (k + 1) l) ≡ take n (take k l)
   unused-same l n k u = take-take n (k + 1) l (omega arith) ∙ sym (take-take n k l u)
 
-  module _ (test : A → Bool) where
-    pub all-append : (a b : List A) → all test (a ++ b) ≡ (all test a && all test b)
-    unfolding all
-    all-append [] b = refl
-    all-append (x ∷ a) b = ap (λ (c : Bool). test x && c) (all-append a b) ∙ and-assoc (test x) (all test a) (all test b)
+module _ {A : Type 0} (test : A → Bool) where
+  pub all-append : (l m : List A) → all test (l ++ m) ≡ (all test l && all test m)
+  unfolding all
+  all-append [] m = refl
+  all-append (x ∷ l) m = rw (all-append l m, and-assoc)
 
-    pub all-last : (a : List A) (x : A) → all test (a ++ (x ∷ [])) ≡ (all test a && test x)
-    unfolding all
-    all-last a x = all-append a (x ∷ []) ∙ ap (λ (c : Bool). all test a && c) (sym (and-true (test x)))
+  pub all-more : (l : List A) (x : A) → all test (l ++ (x ∷ [])) ≡ (all test l && test x)
+  unfolding all
+  all-more l x = all-append l (x ∷ []) ∙ rw (and-true (test x))
 
-    -- Of a list by its entries: none yet, and one more.
-    pub all-none : (f : ℕ → A) → true ≡ all test (upward 0 0 f)
-    unfolding all upward
-    all-none f = refl
+  pub any-more : (l : List A) (x : A) → any test (l ++ (x ∷ [])) ≡ (any test l || test x)
+  unfolding any
+  any-more [] x = or-false (test x)
+  any-more (y ∷ l) x = rw (any-more l x) (sym (or-assoc (test y) (any test l) (test x)))
 
-    pub all-more : {b : Bool} (n : ℕ) (f : ℕ → A) → b ≡ all test (upward 0 n f) → (b && test (f n)) ≡ all test (upward 0 (n + 1) f)
-    all-more n f e = rw (e, upward-more n f) (sym (all-last (upward 0 n f) (f n)))
+  -- Rows end to end, one row more.
+  pub all-rows : (i : ℕ) (f : ℕ → List A) → all test (concat (upward 0 (i + 1) f)) ≡ (all test (concat (upward 0 i f)) && all test (f i))
+  all-rows i f =
+      rw (upward-more i f, concat-append (upward 0 i f) (f i ∷ []), concat-one (f i)) (all-append (concat (upward 0 i f)) (f i))
 
-    -- One more of a row, of which the first n are tested, and of which those beyond n are.
-    module _ (d : A) (l : List A) (n k : ℕ) (h : k < length l) where
-      first-is : all test (take n (take (k + 1) l)) ≡ (all test (take n (take k l)) && (leb n k || test (getD l k d)))
-      first-is = go (leb n k) refl
-        where
-          go : (b : Bool) → leb n k ≡ b → all test (take n (take (k + 1) l)) ≡ (all test (take n (take k l)) && (b || test (getD l k d)))
-          go true e = ap (all test) (unused-same l n k (leb-true n k e)) ∙ and-true (all test (take n (take k l)))
-          go false e =
-              let u : k < n = leb-false n k e in
-              rw (used-more d l n k h u, used-same l n k h u) (all-last (take k l) (getD l k d))
+  -- The entries from place n on: of none, and of one more.
+  pub none-beyond : (n : ℕ) → true ≡ all test (drop n [])
+  unfolding all
+  none-beyond n = rw (drop-nil {A = A} n)
 
-      beyond-is : all test (drop n (take (k + 1) l)) ≡ (all test (drop n (take k l)) && (ltb k n || test (getD l k d)))
-      unfolding all
-      beyond-is = go (ltb k n) refl
-        where
-          long : length (take k l) ≡ k
-          long = length-take-le k l (omega arith)
+  pub all-beyond : (d : A) (n : ℕ) (l : List A) (k : ℕ) → k < length l → all test (drop n (take (k + 1) l)) ≡ (all test (drop n (take k l)) && (ltb k n || test (getD l k d)))
+  unfolding all
+  all-beyond d n l k h =
+      let long : length (take k l) ≡ k = length-take-le k l (omega arith) in
+      let more : length (take (k + 1) l) ≡ k + 1 = length-take-le (k + 1) l (omega arith) in
+      either (λ b. all test (drop n (take (k + 1) l)) ≡ (all test (drop n (take k l)) && (b || test (getD l k d)))) (ltb k n)
+      (λ e.
+      let low : k < n = ltb-true k n e in
+      rw (drop-of-length-le (take (k + 1) l) {i = n} (omega arith), drop-of-length-le (take k l) {i = n} (omega arith)))
+      (λ e.
+      let high : n ≤ k = ltb-false k n e in
+      rw (add-one, take-suc l k d h, drop-append-le n (take k l) (getD l k d ∷ []) (omega arith)) (all-more (drop n (take k l)) (getD l k d)))
 
-          none : (m : ℕ) → m ≤ length l → m ≤ n → all test (drop n (take m l)) ≡ true
-          none m g u = rw (drop-of-length-le (take m l) {i = n} (rw (length-take-le m l g) u))
+  -- Of a list by its entries: none yet, and one more.
+  pub all-none : (f : ℕ → A) → true ≡ all test (upward 0 0 f)
+  unfolding all upward
+  all-none f = refl
 
-          go : (b : Bool) → ltb k n ≡ b → all test (drop n (take (k + 1) l)) ≡ (all test (drop n (take k l)) && (b || test (getD l k d)))
-          go true e =
-              let u : k < n = ltb-true k n e in
-              rw (none (k + 1) (omega arith) (omega arith), none k (omega arith) (omega arith))
-          go false e =
-              rw (take-more d l k h, drop-append-le n (take k l) (getD l k d ∷ []) (rw long (ltb-false k n e)))
-              (all-last (drop n (take k l)) (getD l k d))
+  pub all-upward : (n : ℕ) (f : ℕ → A) → all test (upward 0 (n + 1) f) ≡ (all test (upward 0 n f) && test (f n))
+  all-upward n f = rw (upward-more n f) (all-more (upward 0 n f) (f n))
 
-      pub all-first : {b : Bool} → b ≡ all test (take n (take k l)) → (b && (leb n k || test (getD l k d))) ≡ all test (take n (take (k + 1) l))
-      all-first e = rw e (sym first-is)
+  -- The first n of a row: of none, and of one more.
+  pub first-none : (n : ℕ) → true ≡ all test (take n [])
+  unfolding all
+  first-none n = rw (take-nil {A = A} n)
 
-      pub all-beyond : {b : Bool} → b ≡ all test (drop n (take k l)) → (b && (ltb k n || test (getD l k d))) ≡ all test (drop n (take (k + 1) l))
-      all-beyond e = rw e (sym beyond-is)
+  pub all-first : (d : A) (n : ℕ) (l : List A) (k : ℕ) → k < length l → all test (take n (take (k + 1) l)) ≡ (all test (take n (take k l)) && (leb n k || test (getD l k d)))
+  all-first d n l k h =
+      either (λ b. all test (take n (take (k + 1) l)) ≡ (all test (take n (take k l)) && (b || test (getD l k d)))) (leb n k)
+      (λ e. rw (unused-same l n k (leb-true n k e)) (sym (and-true (all test (take n (take k l))))))
+      (λ e.
+      let high : k < n = leb-false n k e in
+      rw (used-more d l n k h high, used-same l n k h high) (all-more (take k l) (getD l k d)))
 
-    pub first-none : (n : ℕ) → true ≡ all test (take n [])
-    unfolding all
-    first-none n = rw (take-nil n)
+-- A test that does not look at the entries goes before.
+pub or-all : {A : Type 0} (b : Bool) (test : A → Bool) (l : List A) → (b || all test l) ≡ all (λ x. b || test x) l
+unfolding all
+or-all true test [] = refl
+or-all true test (x ∷ l) = or-all true test l
+or-all false test l = refl
 
-    pub beyond-none : (n : ℕ) → true ≡ all test (drop n [])
-    unfolding all
-    beyond-none n = rw (drop-nil n)
+pub upward-map : {A B : Type 0} (f : A → B) (k n : ℕ) (g : ℕ → A) → map f (upward k n g) ≡ upward k n (λ i. f (g i))
+unfolding upward
+upward-map f k zero g = refl
+upward-map f k (suc n) g = ap (λ l. f (g k) ∷ l) (upward-map f (suc k) n g)
 
--- The same with each entry's station.
-module _ {A : Type 0} where
-  module _ (test : ℕ → A → Bool) where
-    numbered-last : (s : ℕ) (a : List A) (x : A) → numbered test s (a ++ (x ∷ [])) ≡ numbered test s a ++ (test (s + length a) x ∷ [])
-    unfolding numbered
-    numbered-last s [] x = rw (add-zero s)
-    numbered-last s (y ∷ a) x =
-        let e : s + suc (length a) ≡ suc s + length a = omega arith in
-        rw e (ap (λ (r : List Bool). test s y ∷ r) (numbered-last (suc s) a x))
+-- Entries with their numbers.
+module _ {A B : Type 0} (f : ℕ → A → B) where
+  pub length-numbered : (k : ℕ) (l : List A) → length (numbered f k l) ≡ length l
+  unfolding numbered
+  length-numbered k [] = refl
+  length-numbered k (x ∷ l) = ap suc (length-numbered (suc k) l)
 
-    stations-last : (a : List A) (x : A) → allStations test (a ++ (x ∷ [])) ≡ (allStations test a && test (1 + length a) x)
-    unfolding allStations
-    stations-last a x = rw (numbered-last 1 a x) (all-last (λ b. b) (numbered test 1 a) (test (1 + length a) x))
+  getD-from : (k : ℕ) (l : List A) (i : ℕ) (d : A) (e : B) → i < length l → getD (numbered f k l) i e ≡ f (k + i) (getD l i d)
+  unfolding numbered
+  getD-from k [] i d e h = absurd (omega arith)
+  getD-from k (x ∷ l) zero d e h = rw (add-zero k)
+  getD-from k (x ∷ l) (suc i) d e h =
+      let n : k + suc i ≡ suc k + i = omega arith in
+      rw n (getD-from (suc k) l i d e (omega arith))
 
-    module _ (d : A) (l : List A) (n k : ℕ) (h : k < length l) where
-      station-is : allStations test (take n (take (k + 1) l)) ≡ (allStations test (take n (take k l)) && (leb n k || test (suc k) (getD l k d)))
-      station-is = go (leb n k) refl
-        where
-          go : (b : Bool) → leb n k ≡ b → allStations test (take n (take (k + 1) l)) ≡ (allStations test (take n (take k l)) && (b || test (suc k) (getD l k d)))
-          go true e = ap (allStations test) (unused-same l n k (leb-true n k e)) ∙ and-true (allStations test (take n (take k l)))
-          go false e =
-              let u : k < n = leb-false n k e in
-              let m : 1 + length (take k l) ≡ suc k = omega (arith, length-take-le k l (omega arith)) in
-              rw (used-more d l n k h u, used-same l n k h u) (stations-last (take k l) (getD l k d) ∙ rw m)
+  -- At place i stands what station i + 1 has.
+  pub getD-numbered : (l : List A) (i : ℕ) (d : A) (e : B) → i < length l → getD (numbered f 1 l) i e ≡ f (suc i) (getD l i d)
+  getD-numbered l i d e h =
+      let n : suc i ≡ 1 + i = omega arith in
+      rw n (getD-from 1 l i d e h)
 
-      pub stations-first : {b : Bool} → b ≡ allStations test (take n (take k l)) → (b && (leb n k || test (suc k) (getD l k d))) ≡ allStations test (take n (take (k + 1) l))
-      stations-first e = rw e (sym station-is)
+  numbered-append : (k : ℕ) (l m : List A) → numbered f k (l ++ m) ≡ numbered f k l ++ numbered f (k + length l) m
+  unfolding numbered
+  numbered-append k [] m = rw (add-zero k)
+  numbered-append k (x ∷ l) m =
+      let n : k + suc (length l) ≡ suc k + length l = omega arith in
+      rw n (ap (λ t. f k x ∷ t) (numbered-append (suc k) l m))
 
-    pub stations-none : (n : ℕ) → true ≡ allStations test (take n [])
-    unfolding allStations numbered all
-    stations-none n = rw (take-nil n)
+  -- A list that has at each place what the station there has.
+  pub is-numbered : (d : A) (e : B) (l : List A) (r : List B) → length r ≡ length l → ((i : ℕ) → i < length l → getD r i e ≡ f (suc i) (getD l i d)) → r ≡ numbered f 1 l
+  is-numbered d e l r h each =
+      ext-getD e r (numbered f 1 l) (h ∙ sym (length-numbered 1 l)) (λ i g. let j : i < length l = omega arith in each i j ∙ sym (getD-numbered l i d e j))
 
--- The largest, and the sum of those in use.
+-- The stations up to n: of no entry, and of one more.
+module _ {A : Type 0} (test : ℕ → A → Bool) where
+  stations-snoc : (l : List A) (x : A) → allStations test (l ++ (x ∷ [])) ≡ (allStations test l && test (suc (length l)) x)
+  unfolding allStations numbered
+  stations-snoc l x =
+      let n : suc (length l) ≡ 1 + length l = omega arith in
+      rw (numbered-append test 1 l (x ∷ []), n) (all-more (λ b. b) (numbered test 1 l) (test (1 + length l) x))
+
+  pub stations-none : (n : ℕ) → true ≡ allStations test (take n [])
+  unfolding allStations numbered all
+  stations-none n = rw (take-nil {A = A} n)
+
+  pub stations-more : (d : A) (n : ℕ) (l : List A) (k : ℕ) → k < length l → allStations test (take n (take (k + 1) l)) ≡ (allStations test (take n (take k l)) && (leb n k || test (suc k) (getD l k d)))
+  stations-more d n l k h =
+      either (λ b. allStations test (take n (take (k + 1) l)) ≡ (allStations test (take n (take k l)) && (b || test (suc k) (getD l k d)))) (leb n k)
+      (λ e. rw (unused-same l n k (leb-true n k e)) (sym (and-true (allStations test (take n (take k l))))))
+      (λ e.
+      let high : k < n = leb-false n k e in
+      rw (used-more d l n k h high, used-same l n k h high) (stations-snoc (take k l) (getD l k d) ∙ rw (length-take-le k l (omega arith))))
+
+-- The largest, and the sum of those before the last in use.
 pub total-none : (n : ℕ) → 0 ≡ total (take n [])
 unfolding total
-total-none n = rw (take-nil n)
+total-none n = rw (take-nil {A = ℕ} n)
 
-largest-last : (a : List ℕ) (x : ℕ) → largest (a ++ (x ∷ [])) ≡ max (largest a) x
+largest-snoc : (a : List ℕ) (x : ℕ) → largest (a ++ (x ∷ [])) ≡ max (largest a) x
 unfolding largest
-largest-last [] x = omega arith
-largest-last (y ∷ a) x = omega (arith, largest-last a x)
+largest-snoc [] x = omega arith
+largest-snoc (y ∷ a) x = omega (arith, largest-snoc a x)
 
-total-last : (a : List ℕ) (x : ℕ) → total (a ++ (x ∷ [])) ≡ total a + x
+total-snoc : (a : List ℕ) (x : ℕ) → total (a ++ (x ∷ [])) ≡ total a + x
 unfolding total
-total-last [] x = omega arith
-total-last (y ∷ a) x = omega (arith, total-last a x)
+total-snoc [] x = omega arith
+total-snoc (y ∷ a) x = omega (arith, total-snoc a x)
 
 module _ (l : List ℕ) (k : ℕ) (h : k < length l) where
   pub largest-more : largest (take (k + 1) l) ≡ max (largest (take k l)) (getD l k 0)
-  largest-more = rw (take-more 0 l k h) (largest-last (take k l) (getD l k 0))
+  largest-more = rw (add-one, take-suc l k 0 h) (largest-snoc (take k l) (getD l k 0))
 
   total-first : (n : ℕ) → total (take n (take (k + 1) l)) ≡ total (take n (take k l)) + cond (ltb k n) (getD l k 0) 0
-  total-first n = go (ltb k n) refl
-    where
-      go : (b : Bool) → ltb k n ≡ b → total (take n (take (k + 1) l)) ≡ total (take n (take k l)) + cond b (getD l k 0) 0
-      go true e =
-          let u : k < n = ltb-true k n e in
-          rw (used-more 0 l n k h u, used-same l n k h u) (total-last (take k l) (getD l k 0))
-      go false e = rw (unused-same l n k (ltb-false k n e)) (omega arith)
+  total-first n =
+      either (λ b. total (take n (take (k + 1) l)) ≡ total (take n (take k l)) + cond b (getD l k 0) 0) (ltb k n)
+      (λ e.
+      let low : k < n = ltb-true k n e in
+      rw (used-more 0 l n k h low, used-same l n k h low) (total-snoc (take k l) (getD l k 0)))
+      (λ e. rw (unused-same l n k (ltb-false k n e)) (omega arith))
 
-  -- The sum of those before the last in use.
+  before : (n : ℕ) → ltb k (n - 1) ≡ ltb (k + 1) n
+  before n =
+      either (λ b. ltb k (n - 1) ≡ b) (ltb (k + 1) n)
+      (λ e. lt-ltb k (n - 1) (omega (arith, ltb-true (k + 1) n e)))
+      (λ e. le-ltb k (n - 1) (omega (arith, ltb-false (k + 1) n e)))
+
   pub total-before : (n : ℕ) → total (take (n - 1) (take k l)) + cond (ltb (k + 1) n) (getD l k 0) 0 ≡ total (take (n - 1) (take (k + 1) l))
-  total-before n = sym (total-first (n - 1) ∙ rw before)
-    where
-      before : ltb k (n - 1) ≡ ltb (k + 1) n
-      before = go (ltb (k + 1) n) refl
-        where
-          go : (b : Bool) → ltb (k + 1) n ≡ b → ltb k (n - 1) ≡ b
-          go true e = lt-ltb k (n - 1) (omega (arith, ltb-true (k + 1) n e))
-          go false e = le-ltb k (n - 1) (omega (arith, ltb-false (k + 1) n e))
+  total-before n = sym (total-first (n - 1) ∙ rw (before n))
+
+-- Inside two bounds is not outside of them.
+least-not : (a b : ℕ) → leb a b ≡ not (ltb b a)
+least-not a b = either (λ t. leb a b ≡ not t) (ltb b a) (λ e. lt-leb a b (ltb-true b a e)) (λ e. le-leb a b (ltb-false b a e))
+
+neither : (x y : Bool) → (not x && not y) ≡ not (x || y)
+neither true y = refl
+neither false y = refl
+
+pub inside : (low high n : ℕ) {outside : Bool} → (ltb n low || ltb high n) ≡ outside → within low high n ≡ not outside
+inside low high n e = rw (least-not low n, least-not n high) (neither (ltb n low) (ltb high n) ∙ ap not e)

@@ -1,5 +1,17 @@
 // Entry points for tests and the benchmark, over the parts that the dispatcher's calls are made of. No product has them.
+ghost use mathlib.Core.Path.{_≡_};
+ghost use mathlib.Core.List.{_∷_};
+ghost use Rattle.model.specs.Questions.{firstNo};
+ghost use Rattle.model.specs.Calls.{replyQuestion, imageQuestions};
 ghost use Rattle.probe.specs.Recode.{Recoded};
+
+// The number that questions 1 to 4 give. Neither 0 for an unsound image nor 4 beside a reply of 15 bytes meets the promise.
+#[no_mangle]
+pub extern "C" fn probe_number(image: &[u8], reply: &[u8]) -> u32
+    ensures { λ r. ⌜ r ≡ firstNo (replyQuestion (now (reply .entry)) ∷ imageQuestions (now (image .entry))) ⌝ }
+{
+    questions::number(questions::answer_to(image, reply))
+}
 
 // Decodes an image and encodes what it says. Neither another number nor a byte changed beside a number other than 0 meets the promise.
 #[no_mangle]

@@ -1,5 +1,4 @@
 // Document 01, "Sound means", for one live order's record: each clause a function, and all of them by name.
-pub mod rows; // rows.rt: what is asked of a row of eight
 
 ghost use mathlib.Core.Path.{_≡_};
 ghost use Prim.Native.Nat.{_<_};
@@ -47,7 +46,7 @@ fn sum_in_range(o: Order) -> bool
     ensures { λ r. ⌜ r ≡ sumInRange o ⌝ }
 {
     let costs = o.costs;
-    rows::largest(costs) <= o.sum
+    row_soundness::largest(costs) <= o.sum
 }
 
 // "the order on time": acceptance tick, stored sum and maxima added up in 64 bits, since in 32 they can wrap.
@@ -55,7 +54,7 @@ fn on_time(n: u32, o: Order) -> bool
     ensures { λ r. ⌜ r ≡ onTime n o ⌝ }
 {
     let maxima = o.maxima;
-    wide(o.accepted) + (wide(o.sum) + wide(rows::before_last(n, maxima))) <= wide(o.due)
+    wide(o.accepted) + (wide(o.sum) + wide(row_soundness::before_last(n, maxima))) <= wide(o.due)
 }
 
 // "fields beyond N zero", of a record.
@@ -65,7 +64,9 @@ fn zero_beyond(n: u32, o: Order) -> bool
     let ranks = o.ranks;
     let costs = o.costs;
     let maxima = o.maxima;
-    rows::ranks_zero_beyond(n, ranks) & rows::zero_beyond(n, costs) & rows::zero_beyond(n, maxima)
+    row_soundness::ranks_zero_beyond(n, ranks)
+        & row_soundness::zero_beyond(n, costs)
+        & row_soundness::zero_beyond(n, maxima)
 }
 
 // Every clause of a record, in a pipeline of n stations whose clock shows `clock`. Neither a maximum above 6,000 let through nor a due tick held against the wrong end meets the promise.
@@ -78,8 +79,8 @@ pub fn tested(n: u32, clock: u32, o: Order) -> Tests
         accepted: o.accepted <= clock,
         due: due_in_range(o),
         station: station_in_use(n, o),
-        costs: rows::costs_in_range(n, costs),
-        maxima: rows::maxima_in_range(n, costs, maxima),
+        costs: row_soundness::costs_in_range(n, costs),
+        maxima: row_soundness::maxima_in_range(n, costs, maxima),
         sum: sum_in_range(o),
         on_time: on_time(n, o),
         beyond: zero_beyond(n, o),

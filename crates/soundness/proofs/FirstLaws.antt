@@ -1,15 +1,15 @@
 -- The counts come first: what each test of them says of the first clause that fails; and an image is sound where none does.
 use mathlib.Core.Path.{_≡_, refl, sym, ap, _∙_}
-use mathlib.Core.Bool.{Bool, true, false, not, _&&_, _||_}
+use mathlib.Core.Bool.{Bool, true, false, not, _||_}
 use mathlib.Core.List.{List, [], _∷_}
 use Prim.Native.Nat.{ℕ, _≤_, _<_}
 use native.Mathlib.Omega.{arith}
 use lib.ListN.{length}
-use lib.Dec.{leb, ltb}
-use borrow.Author.Tests.{ltb-true, ltb-false, le-leb, lt-leb, not-true}
-use Rattle.lists.proofs.Tests.{and-both}
+use lib.Dec.{ltb}
+use borrow.Author.Tests.{le-leb, lt-leb, not-true}
+use Rattle.lists.proofs.Tests.{and-both, inside}
 use Rattle.model.specs.Limits.{maxStations, maxLive}
-use Rattle.model.specs.Lists.{all, within}
+use Rattle.model.specs.Lists.{all}
 use Rattle.model.specs.Bytes.{byte}
 use Rattle.model.specs.Layout.{stationCountAt}
 use Rattle.model.specs.Image.{liveCount, decode}
@@ -17,21 +17,6 @@ use Rattle.model.specs.Soundness.{stationCountInRange, liveCountInRange, clause
 use Rattle.soundness.specs.declared.Flaw.{Flaw}
 use Rattle.soundness.specs.declared.Flaw.the-variants.{StationCount, LiveCount}
 use Rattle.soundness.specs.Flaw.{named, isNothing, firstOf, firstFlaw, laterClauses, listOf, flawOf}
-
-least-not : (a b : ℕ) → leb a b ≡ not (ltb b a)
-least-not a b = go (ltb b a) refl
-  where
-    go : (t : Bool) → ltb b a ≡ t → leb a b ≡ not t
-    go true e = lt-leb a b (ltb-true b a e)
-    go false e = le-leb a b (ltb-false b a e)
-
-neither : (x y : Bool) → (not x && not y) ≡ not (x || y)
-neither true y = refl
-neither false y = refl
-
--- Inside the bounds is not outside of them.
-inside : (low high n : ℕ) {outside : Bool} → (ltb n low || ltb high n) ≡ outside → within low high n ≡ not outside
-inside low high n e = rw (least-not low n, least-not n high) (neither (ltb n low) (ltb high n) ∙ ap not e)
 
 module _ (image : List ℕ) {n : ℕ} (is : n ≡ byte image stationCountAt) where
   counted : {outside : Bool} → (ltb n 1 || ltb maxStations n) ≡ outside → stationCountInRange (decode image) ≡ not outside

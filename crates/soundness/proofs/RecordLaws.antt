@@ -1,5 +1,5 @@
 -- The clauses of all live orders, one order more: clause by clause.
-use mathlib.Core.Path.{_≡_, refl}
+use mathlib.Core.Path.{_≡_, refl, sym}
 use mathlib.Core.Bool.{true}
 use Prim.Native.Nat.{ℕ, _+_}
 use lib.Dec.{leb}
@@ -7,7 +7,7 @@ use Rattle.model.specs.declared.Order.{Order}
 use Rattle.model.specs.Lists.{all, upward}
 use Rattle.model.specs.DelayBound.{onTime}
 use Rattle.model.specs.Soundness.{dueInRange, stationInUse, costsInRange, maximaInRange, sumInRange, recordZeroBeyond}
-use Rattle.lists.proofs.Tests.{all-more}
+use Rattle.lists.proofs.Tests.{all-upward}
 use Rattle.record_soundness.specs.Record.{testsOf, bothOf}
 use Rattle.soundness.specs.Records.{testsOfAll}
 
@@ -20,12 +20,12 @@ module _ (n clock : ℕ) (f : ℕ → Order) where
   unfolding bothOf testsOf testsOfAll
   tested-more i = λ j.
       record {
-        accepted = all-more (λ (o : Order). leb (o .accepted) clock) i f refl j;
-        due = all-more dueInRange i f refl j;
-        station = all-more (stationInUse n) i f refl j;
-        costs = all-more (λ (o : Order). costsInRange n (o .costs)) i f refl j;
-        maxima = all-more (maximaInRange n) i f refl j;
-        sum = all-more sumInRange i f refl j;
-        «on_time» = all-more (onTime n) i f refl j;
-        beyond = all-more (recordZeroBeyond n) i f refl j;
+        accepted = sym (all-upward (λ (o : Order). leb (o .accepted) clock) i f) j;
+        due = sym (all-upward dueInRange i f) j;
+        station = sym (all-upward (stationInUse n) i f) j;
+        costs = sym (all-upward (λ (o : Order). costsInRange n (o .costs)) i f) j;
+        maxima = sym (all-upward (maximaInRange n) i f) j;
+        sum = sym (all-upward sumInRange i f) j;
+        «on_time» = sym (all-upward (onTime n) i f) j;
+        beyond = sym (all-upward (recordZeroBeyond n) i f) j;
       }

@@ -1,6 +1,7 @@
 -- Clause by clause.
 use borrow.Author.Needs.{needs}
-use Rattle.record_soundness.specs.Record.{testsOf, maximaHold}
+use Rattle.record_soundness.specs.Record.{testsOf}
+use Rattle.row_soundness.specs.Maxima.{maximaHold}
 use Rattle.model.specs.Soundness.{maximaInRange}
 use Rattle.record_soundness.proofs.tested.Statement.{statement}
 use Rattle.record_soundness.proofs.tested.Tie as tie

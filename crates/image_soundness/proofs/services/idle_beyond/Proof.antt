@@ -9,7 +9,7 @@ use Rattle.model.specs.Lists.{all}
 use Rattle.model.specs.State.{idle}
 use Rattle.model.specs.Soundness.{isIdle}
 use Rattle.lists.proofs.Fills.{length-mapped}
-use Rattle.image_soundness.proofs.Tests.{none-beyond, all-beyond}
+use Rattle.lists.proofs.Tests.{none-beyond, all-beyond}
 use Rattle.image_soundness.proofs.services.idle_beyond.Statement.{statement}
 use Rattle.image_soundness.proofs.services.idle_beyond.Tie as tie
 
@@ -29,7 +29,7 @@ array-copy-out-e : tie.Need-array-copy-out-e Inv-loop μ-loop
 array-copy-out-e c = omega arith
 
 idle-requires : tie.Need-idle-requires Inv-loop μ-loop
-idle-requires c κs = search needs
+idle-requires c κs = tt
 
 add-k : tie.Need-add-k Inv-loop μ-loop
 add-k c = omega arith

@@ -9,7 +9,7 @@ use Rattle.model.specs.Layout.{recordPart}
 use Rattle.model.specs.Image.{orderOf}
 use Rattle.lists.proofs.Fills.{length-mapped, upward-more}
 use Rattle.image_soundness.specs.Served.{servedBy, ordersOf}
-use Rattle.image_soundness.proofs.Marks.{served-none, served-more}
+use Rattle.image_soundness.proofs.Marks.{served-none, length-served, served-more}
 use Rattle.image_soundness.proofs.services.served_by.Statement.{statement}
 use Rattle.image_soundness.proofs.services.served_by.Tie as tie
 
@@ -29,8 +29,10 @@ loop-holds c = (omega arith, served-none _ (long (c .before)))
 order-at-requires : tie.Need-order-at-requires Inv-loop μ-loop
 order-at-requires c κs = (omega arith, omega arith)
 
-marked-by-requires : tie.Need-marked-by-requires Inv-loop μ-loop
-marked-by-requires c κs = search needs
+mark-requires : tie.Need-mark-requires Inv-loop μ-loop
+mark-requires c κs =
+    let here = c .before .before .before in
+    ap length (here .loop .inv .1) ∙ length-served _ (long (here .before .before)) _
 
 add-i : tie.Need-add-i Inv-loop μ-loop
 add-i c = omega arith
@@ -40,14 +42,14 @@ loop-less c = omega arith
 
 loop-again : tie.Need-loop-again Inv-loop μ-loop
 loop-again c =
-    let here = c .before .before .before in
+    let here = c .before .before .before .before in
     let top = here .before .before in
     let image = top .args .image .now in
     let i = here .loop .i in
     let services = top .args .services in (
       omega arith,
-      c .marked-by .ensures
-          ∙ rw (here .loop .inv .1, c .before .order-at .ensures) (served-more services (long top) (ordersOf image i) (orderOf (recordPart image i)))
+      c .mark .ensures
+          ∙ rw (here .loop .inv .1, c .before .before .order-at .ensures) (served-more services (long top) (ordersOf image i) (orderOf (recordPart image i)))
           ∙ ap (servedBy services) (sym (upward-more i (λ k. orderOf (recordPart image k)))),
     )
 
@@ -64,7 +66,7 @@ served-by-spec =
     μ-loop
     loop-holds
     order-at-requires
-    marked-by-requires
+    mark-requires
     add-i
     loop-less
     loop-again

@@ -15,16 +15,16 @@ use Rattle.model.specs.Image.{decode}
 use Rattle.model.specs.Soundness.{isIdle, serves, servicesInOrder}
 use Rattle.lists.proofs.Fills.{length-mapped}
 use Rattle.image_soundness.specs.Served.{ordersOf}
-use Rattle.image_soundness.proofs.Tests.{stations-none, stations-more}
+use Rattle.lists.proofs.Tests.{stations-none, stations-more}
 use Rattle.image_soundness.proofs.Marks.{served-at}
 use Rattle.image_soundness.proofs.services.services_in_order.Statement.{statement}
 use Rattle.image_soundness.proofs.services.services_in_order.Tie as tie
 
-abbrev inOrder : List Order → ℕ → Service → Bool
-inOrder orders k e = isIdle e || any (serves k e) orders
+abbrev idleOrServed : List Order → ℕ → Service → Bool
+idleOrServed orders k e = isIdle e || any (serves k e) orders
 
 abbrev Inv-loop : tie.InvT-loop
-Inv-loop image n live services served holds₀ k₀ holds k = (k ≤ 8) × (holds ≡ allStations (inOrder (ordersOf image live)) (take n (take k services)))
+Inv-loop image n live services served holds₀ k₀ holds k = (k ≤ 8) × (holds ≡ allStations (idleOrServed (ordersOf image live)) (take n (take k services)))
 
 abbrev μ-loop : tie.MeasureT-loop
 μ-loop image n live services served holds₀ k₀ holds k = 8 - k
@@ -42,7 +42,7 @@ array-copy-out-e : tie.Need-array-copy-out-e Inv-loop μ-loop
 array-copy-out-e c = omega arith
 
 idle-requires : tie.Need-idle-requires Inv-loop μ-loop
-idle-requires c κs = search needs
+idle-requires c κs = tt
 
 array-read-holds : tie.Need-array-read-holds Inv-loop μ-loop
 array-read-holds c = omega arith
@@ -65,7 +65,7 @@ loop-again c =
     let k = here .loop .k in (
       omega arith,
       rw (here .loop .inv .1, c .idle .ensures, here .before .served-by .ensures, served-at services (long top) orders k (omega arith))
-          (sym (stations-more (inOrder orders) idle (top .args .n) services k (omega (arith, long top)))),
+          (sym (stations-more (idleOrServed orders) idle (top .args .n) services k (omega (arith, long top)))),
     )
 
 returns : tie.Need-returns Inv-loop μ-loop

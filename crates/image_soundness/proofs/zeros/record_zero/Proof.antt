@@ -4,7 +4,7 @@ use mathlib.Core.Path.{sym}
 use Prim.Native.Nat.{_+_, _*_}
 use Rattle.model.specs.Lists.{part, isZero}
 use Rattle.model.specs.Layout.{recordPart}
-use Rattle.image_soundness.proofs.Tests.{all-append}
+use Rattle.lists.proofs.Tests.{all-append}
 use Rattle.image_soundness.proofs.Parts.{part-part, zero-first, zero-half, zero-word}
 use Rattle.image_soundness.proofs.zeros.record_zero.Statement.{statement}
 use Rattle.image_soundness.proofs.zeros.record_zero.Tie as tie

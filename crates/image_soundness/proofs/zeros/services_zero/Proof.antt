@@ -4,7 +4,7 @@ use mathlib.Core.Path.{_≡_, refl, sym}
 use Prim.Native.Nat.{_≤_, _-_}
 use Rattle.model.specs.Lists.{isZero, all, concat, upward}
 use Rattle.image_soundness.specs.Zeros.{serviceZeros}
-use Rattle.image_soundness.proofs.Tests.{all-rows}
+use Rattle.lists.proofs.Tests.{all-rows}
 use Rattle.image_soundness.proofs.zeros.services_zero.Statement.{statement}
 use Rattle.image_soundness.proofs.zeros.services_zero.Tie as tie
 

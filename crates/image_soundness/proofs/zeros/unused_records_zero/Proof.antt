@@ -8,7 +8,7 @@ use borrow.Author.Tests.{le-ltb}
 use Rattle.model.specs.Lists.{isZero, all}
 use Rattle.model.specs.Image.{liveCount}
 use Rattle.model.specs.Soundness.{unusedRecordsZero}
-use Rattle.image_soundness.proofs.Tests.{all-beyond}
+use Rattle.lists.proofs.Tests.{all-beyond}
 use Rattle.image_soundness.proofs.zeros.unused_records_zero.Statement.{statement}
 use Rattle.image_soundness.proofs.zeros.unused_records_zero.Tie as tie
 

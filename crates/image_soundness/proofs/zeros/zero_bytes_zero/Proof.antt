@@ -7,7 +7,7 @@ use Rattle.model.specs.Lists.{isZero, part, concat, upward}
 use Rattle.model.specs.Image.{liveCount}
 use Rattle.model.specs.Soundness.{zeroBytes, zeroBytesZero}
 use Rattle.image_soundness.specs.Zeros.{serviceZeros, recordZeros}
-use Rattle.image_soundness.proofs.Tests.{all-append}
+use Rattle.lists.proofs.Tests.{all-append}
 use Rattle.image_soundness.proofs.Parts.{zero-byte}
 use Rattle.image_soundness.proofs.zeros.zero_bytes_zero.Statement.{statement}
 use Rattle.image_soundness.proofs.zeros.zero_bytes_zero.Tie as tie

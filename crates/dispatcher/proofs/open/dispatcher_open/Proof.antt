@@ -1,0 +1,107 @@
+-- The number first: it tells what may be written. A done call writes the whole image and the whole reply, a decline the reply alone, and 1 nothing.
+use mathlib.Core.Path.{_≡_, sym, ap, _∙_}
+use Prim.Native.Nat.{ℕ, _≤_, _%_}
+use native.Mathlib.Omega.{arith}
+use denote.Ref.{now}
+use borrow.Author.Needs.{needs}
+use Rattle.model.specs.State.{fresh}
+use Rattle.model.specs.Image.{encode}
+use Rattle.model.specs.Calls.{openNumber}
+use Rattle.image.specs.declared.Pipeline.{Pipeline}
+use Rattle.image.specs.Pipeline.{padded, listed}
+use Rattle.image.proofs.TwoForms.{listed-padded}
+use Rattle.dispatcher.proofs.OpenLaws.{heard, whole, few, unheard, opened, declined}
+use Rattle.dispatcher.proofs.open.dispatcher_open.Statement.{statement}
+use Rattle.dispatcher.proofs.open.dispatcher_open.Tie as tie
+
+open-answer-requires : tie.Need-open-answer-requires
+open-answer-requires c κs = search needs
+
+number-requires : tie.Need-number-requires
+number-requires c κs = search needs
+
+same-length : tie.Need-same-length
+same-length c = search needs
+
+same-length-2 : tie.Need-same-length-2
+same-length-2 c = search needs
+
+number-is : (c : tie.After-number) → c .number .result ≡ openNumber (c .before .before .before .before .before .before .args .image .now) (c .before .before .before .before .before .before .args .stations) (c .before .before .before .before .before .before .args .reply .now)
+number-is c = c .number .ensures ∙ c .before .open-answer .ensures
+
+empty : (n : ℕ) (p : Pipeline) → p ≡ padded (fresh n) → p .live ≤ 32
+unfolding padded fresh
+empty n p e = omega (arith, ap (λ (q : Pipeline). q .live) e)
+
+returns : tie.Need-returns
+returns c =
+    let k = c .before in
+    unheard _ _ _ (sym (c .if1 .taken) ∙ number-is k)
+
+cast-fresh : tie.Need-cast-fresh
+cast-fresh c = search needs
+
+fresh-requires : tie.Need-fresh-requires
+fresh-requires c κs = search needs
+
+encode-requires : tie.Need-encode-requires
+encode-requires c κs =
+    let k = c .before .before .before .before in
+    (whole _ _ _ (sym (number-is k) ∙ c .before .before .if2 .taken), empty _ (c .fresh .result) (c .fresh .ensures))
+
+put-reply-requires : tie.Need-put-reply-requires
+put-reply-requires c κs =
+    let k = c .before .before .before .before .before .before .before .before in
+    heard _ _ _ (λ e. c .before .before .before .before .before .before .before .if1 .left (number-is k ∙ e))
+
+same-length-3 : tie.Need-same-length-3
+same-length-3 c = search needs
+
+same-length-4 : tie.Need-same-length-4
+same-length-4 c = search needs
+
+returns-2 : tie.Need-returns-2
+returns-2 c =
+    let k = c .before .before .before .before .before .before .before .before .before .before .before in
+    let done = sym (c .before .before .before .before .before .before .before .before .before .if2 .taken) ∙ number-is k in
+    let n = k .before .before .before .before .before .before .args .stations in
+    let low : n % 256 ≡ n = omega (arith, few _ _ _ (sym done)) in
+    let image = c .before .before .before .before .before .before .encode .ensures ∙ ap encode (ap listed (c .before .before .before .before .before .before .before .fresh .ensures) ∙ listed-padded (fresh (n % 256)) ∙ ap fresh low) in
+    rw (image, c .before .before .put-reply .ensures) (opened _ n _ done)
+
+put-reply-requires-2 : tie.Need-put-reply-requires-2
+put-reply-requires-2 c κs =
+    let k = c .before .before .before in
+    heard _ _ _ (λ e. c .before .before .if1 .left (number-is k ∙ e))
+
+same-length-5 : tie.Need-same-length-5
+same-length-5 c = search needs
+
+same-length-6 : tie.Need-same-length-6
+same-length-6 c = search needs
+
+returns-3 : tie.Need-returns-3
+returns-3 c =
+    let k = c .before .before .before .before .before .before in
+    rw (c .before .before .put-reply2 .ensures) (declined _ _ _ (k .number .result) (number-is k) (c .before .before .before .before .if2 .left) (c .before .before .before .before .before .if1 .left))
+
+pub dispatcher-open-spec : {M : Type 1} → statement M
+dispatcher-open-spec =
+    tie.close
+    (tie.spec
+    open-answer-requires
+    number-requires
+    same-length
+    same-length-2
+    returns
+    cast-fresh
+    fresh-requires
+    encode-requires
+    put-reply-requires
+    same-length-3
+    same-length-4
+    returns-2
+    put-reply-requires-2
+    same-length-5
+    same-length-6
+    returns-3)

@@ -1,0 +1,4 @@
+// The cabinet's C interface (document 01: "The cabinet's C firmware calls open, quote, offer and advance"). The calls alone
+// join bytes and steps: each decides its number first, and only then writes.
+mod open; // open.rt: dispatcher_open
+mod reply; // reply.rt: the 16 bytes that a call leaves

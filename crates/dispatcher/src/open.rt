@@ -1,0 +1,69 @@
+// "Open takes 1, 2, 14"; "open gives zeros and a fresh image (clock 0, next ticket 1)".
+ghost use mathlib.Core.Path.{_≡_};
+ghost use Rattle.model.specs.State as state;
+ghost use Rattle.model.specs.Calls.{openNumber, openCall};
+ghost use Rattle.image.specs.Pipeline.{padded};
+ghost use Rattle.questions.specs.Answer.{numberOf};
+ghost use Rattle.dispatcher.specs.Gives.{Gives};
+use super::reply::put_reply;
+use image::Pipeline;
+use image::layout::IMAGE_SIZE;
+use model::Order;
+use model::Service;
+use questions::Answer;
+
+fn open_answer(image: &[u8], stations: u32, reply: &[u8]) -> Answer
+    ensures { λ r. ⌜ numberOf r ≡ openNumber (now (image .entry)) stations (now (reply .entry)) ⌝ }
+{
+    if reply.len() != 16 {
+        return Answer::ReplyLength;
+    }
+    if image.len() != IMAGE_SIZE {
+        return Answer::ImageLength;
+    }
+    if (stations < 1) | (8 < stations) {
+        return Answer::Stations;
+    }
+    Answer::Passed
+}
+
+fn fresh(n: u8) -> Pipeline
+    ensures { λ r. ⌜ r ≡ padded (state.fresh n) ⌝ }
+{
+    Pipeline {
+        n: n,
+        live: 0,
+        clock: 0,
+        next: 1,
+        services: [Service { ticket: 0, left: 0 }; 8],
+        orders: [Order {
+            ticket: 0,
+            accepted: 0,
+            due: 0,
+            sum: 0,
+            station: 0,
+            ranks: [0; 8],
+            costs: [0; 8],
+            maxima: [0; 8],
+        }; 32],
+    }
+}
+
+// Opens a cabinet of so many stations in the image. Neither a decline that writes into the image nor a reply written
+// beside number 1 meets the promise.
+#[no_mangle]
+pub extern "C" fn dispatcher_open(image: &mut [u8], stations: u32, reply: &mut [u8]) -> u32
+    ensures { λ r. ⌜ Gives (openCall (now (image .entry)) stations (now (reply .entry))) r (now (image .exit)) (now (reply .exit)) ⌝ }
+{
+    let number = questions::number(open_answer(image, stations, reply));
+    if number == 1 {
+        return 1;
+    }
+    if number == 0 {
+        image::encode::encode(image, fresh((stations % 256) as u8));
+        put_reply(reply, 0, 0, 0, 0);
+        return 0;
+    }
+    put_reply(reply, number, 0, 0, 0);
+    number
+}

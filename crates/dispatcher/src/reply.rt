@@ -1,0 +1,18 @@
+// "The reply holds number (0 for done), ticket, tick, margin (signed), 4 bytes each"
+ghost use mathlib.Core.Path.{_≡_};
+ghost use mathlib.Core.List.{_++_};
+ghost use lib.ListN.{length};
+ghost use Rattle.model.specs.Bytes.{fourBytes};
+ghost use Rattle.model.specs.Layout.{replySize};
+use little_endian::write::put_u32;
+
+// All 16 bytes; the margin by its 32 bits.
+pub fn put_reply(reply: &mut [u8], number: u32, ticket: u32, tick: u32, margin: u32)
+    requires { ⌜ length (now reply) ≡ replySize ⌝ }
+    ensures { λ _. ⌜ now (reply .exit) ≡ fourBytes number ++ fourBytes ticket ++ fourBytes tick ++ fourBytes margin ⌝ }
+{
+    put_u32(reply, 0, number);
+    put_u32(reply, 4, ticket);
+    put_u32(reply, 8, tick);
+    put_u32(reply, 12, margin);
+}

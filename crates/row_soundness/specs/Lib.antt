@@ -1,0 +1,2 @@
+-- What is asked of two rows together.
+pub mod Maxima
