@@ -35,4 +35,11 @@ returns c =
 pub put-flaw-spec : {M : Type 1} → statement M
 put-flaw-spec =
     tie.close
-    (tie.spec first-flaw-requires name-of-requires array-share-prefix-text slice-aggregate-put-clause put-clause-requires same-length returns)
+    (tie.spec
+    first-flaw-requires
+    name-of-requires
+    array-share-prefix-text
+    slice-aggregate-put-clause
+    put-clause-requires
+    same-length
+    returns)
