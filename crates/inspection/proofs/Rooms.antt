@@ -4,34 +4,46 @@ use mathlib.Core.Bool.{true}
 use mathlib.Core.List.{List}
 use Prim.Native.Nat.{ℕ, _≤_, _<_}
 use native.Mathlib.Omega.{arith}
-use lib.ListN.{length, length-append}
+use lib.ListN.{length, take, length-append}
+use lib.Seq.{length-take-le}
 use Rattle.model.specs.Limits.{maxStations, maxLive}
 use Rattle.model.specs.Layout.{imageSize}
 use Rattle.model.specs.Image.{decode}
 use Rattle.model.specs.Soundness.{sound}
 use Rattle.text.specs.Decimal.{decimal}
 use Rattle.text.proofs.Decimals.{length-decimal}
+use Rattle.lists.specs.Stored.{Put}
 use Rattle.image.specs.Pipeline.{padded, Readable}
 use Rattle.image.proofs.TwoForms.{live-decoded}
 use Rattle.roundtrip.specs.InRange.{byteLimit, wordLimit, Below}
 use Rattle.roundtrip.proofs.Sound.{sound-gives}
-use Rattle.report.specs.Report.{lineFeed, figureLine, stateReport}
+use Rattle.report.specs.Report.{lineFeed, figureLine, stateReport, clauseLine}
+use Rattle.report.proofs.Lengths.{length-clause}
 use Rattle.report.proofs.Room.{state-room}
+use Rattle.inspection.specs.declared.Name.{Name}
+use Rattle.inspection.specs.Explained.{Named}
 
 pub number-room : (number : ℕ) → number < wordLimit → length (figureLine "number " number) ≤ 18
 number-room number h = omega (arith, length-append (decimal number) lineFeed, length-decimal 9 number (omega arith))
 
-module _ (image : List ℕ) (bytes : Below byteLimit image) (e : sound image ≡ true) where
-  pub few-stations : padded (decode image) .n ≤ maxStations
-  unfolding padded
-  few-stations = sound-gives image bytes e .facts .n-high
+-- The place after the line of the number, and the room for the line of a clause.
+pub number-end : {l m : List ℕ} {number end : ℕ} → Put l 0 (figureLine "number " number) end m → number < wordLimit → end ≤ 18
+number-end {number = number} p h = omega (arith, p .place, number-room number h)
 
-  pub few-live : padded (decode image) .live ≤ maxLive
-  unfolding padded
-  few-live = sound-gives image bytes e .facts .live
+pub clause-room : {name : List ℕ} {r : Name} → Named name r → length (clauseLine (take (r .1) (r .0))) ≤ 22
+clause-room {name} {r} n = omega (arith, length-clause (take (r .1) (r .0)), length-take-le (r .1) (r .0) (n .inside), n .short)
 
-  pub readable : length image ≡ imageSize → Readable image
-  readable whole = record { whole = whole; room = omega (arith, few-live, live-decoded image) }
+-- What a sound image says can be held by the code's state, and be printed.
+pub record Held (image : List ℕ) : Type 0 where
+  pub stations : padded (decode image) .n ≤ maxStations
+  pub live : padded (decode image) .live ≤ maxLive
+  pub room : length (stateReport (decode image)) ≤ 8000
 
-  pub said-room : length (stateReport (decode image)) ≤ 8000
-  said-room = let g = sound-gives image bytes e in state-room (decode image) (g .in-range) (g .facts .n-high)
+pub sound-held : (image : List ℕ) → Below byteLimit image → sound image ≡ true → Held image
+unfolding padded
+sound-held image bytes e =
+    let g = sound-gives image bytes e in
+    record { stations = g .facts .n-high; live = g .facts .live; room = state-room (decode image) (g .in-range) (g .facts .n-high) }
+
+pub readable : (image : List ℕ) → length image ≡ imageSize → Held image → Readable image
+readable image whole h = record { whole = whole; room = omega (arith, h .live, live-decoded image) }

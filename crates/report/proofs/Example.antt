@@ -32,7 +32,7 @@ pub sound-printed : report 0 [] shown ≡ ascii "number 0\nstations 2\nclock 1\n
 unfolding report stateReport headLines stationLines orderLines stationLine serviceWords orderLine orderFigures orderTicks orderCosts spaced isIdle concat numbered decimal digits
 sound-printed = refl
 
-pub unsound-printed : report 4 (ascii "clock-in-range") shown ≡ ascii "number 4\nclause clock-in-range\n"
+pub unsound-printed : report 4 (ascii "clock") shown ≡ ascii "number 4\nclause clock\n"
 unfolding report clauseLine decimal digits
 unsound-printed = refl
 

@@ -1,15 +1,15 @@
 // The text that `inspect` prints of an image, into a lent buffer. Each function stores one text of specs/Report.antt from a
 // place on, leaves every other byte alone, and answers the place after the last byte stored. It asks for exactly the room that
-// its text takes; proofs/Room.antt says how much is always enough. A text of more than a few parts is
-// printed by several functions: a proof grows fast with the calls that lend the buffer in one function.
+// its text takes; proofs/Room.antt says how much is always enough. A text of more than a few parts is printed by several
+// functions: a proof grows fast with the calls that lend the buffer in one function.
 ghost use mathlib.Core.List.{_++_};
 ghost use Prim.Native.Nat.{_+_, _≤_};
 ghost use lib.ListN.{length, take};
 ghost use Rattle.model.specs.Limits.{maxStations, maxLive};
 ghost use Rattle.lists.specs.Stored.{Put};
 ghost use Rattle.text.specs.Decimal.{decimal};
-ghost use Rattle.report.specs.Report.{lineFeed, figure, figureLine, spaced, serviceWords, stationLine, orderTicks, orderFigures, orderCosts, orderLine, headLines, stationLines, orderLines, stateReport, clauseLine};
 ghost use Rattle.image.specs.Pipeline.{listed};
+ghost use Rattle.report.specs.Report.{lineFeed, figure, figureLine, spaced, serviceWords, stationLine, orderTicks, orderFigures, orderCosts, orderLine, headLines, stationLines, orderLines, stateReport, clauseLine};
 use image::Pipeline;
 use model::Order;
 use model::Service;

@@ -3,7 +3,7 @@ use mathlib.Core.Path.{_∙_}
 use native.Mathlib.Omega.{arith}
 use Rattle.lists.proofs.Stores.{put-then, put-length}
 use Rattle.inspection.proofs.Numbers.{zero-whole-sound, four-whole, zero-said, four-named, others-alone}
-use Rattle.inspection.proofs.Rooms.{number-room}
+use Rattle.inspection.proofs.Rooms.{number-room, number-end}
 use Rattle.inspection.proofs.explain.Statement.{statement}
 use Rattle.inspection.proofs.explain.Tie as tie
 
@@ -23,7 +23,7 @@ put-said-requires c κs =
     let is = k .ensures ∙ c .before .before .before .before .before .image-answer .ensures in
     let p = c .before .before .put-number .ensures in
     let w = zero-whole-sound image (k .result) is (c .before .if1 .taken) in
-    (w .0, w .1, omega (arith, p .place, put-length p, number-room (k .result) (omega arith)))
+    (w .0, w .1, omega (arith, put-length p, number-end p (omega arith)))
 
 returns : tie.Need-returns
 returns c =
@@ -32,7 +32,7 @@ returns c =
     let is = k .ensures ∙ c .before .before .before .before .before .before .image-answer .ensures in
     let p = c .before .before .before .put-number .ensures in
     let q = c .put-said .ensures in
-    (rw (zero-said image (k .result) is (c .before .before .if1 .taken)) (put-then p (q .0)), omega (arith, q .1, p .place, number-room (k .result) (omega arith)))
+    (rw (zero-said image (k .result) is (c .before .before .if1 .taken)) (put-then p (q .0)), omega (arith, q .1, number-end p (omega arith)))
 
 put-flaw-requires : tie.Need-put-flaw-requires
 put-flaw-requires c κs =
@@ -40,7 +40,7 @@ put-flaw-requires c κs =
     let k = c .before .before .before .before .before .number in
     let is = k .ensures ∙ c .before .before .before .before .before .before .image-answer .ensures in
     let p = c .before .before .before .put-number .ensures in
-    (four-whole image (k .result) is (c .before .if2 .taken), omega (arith, p .place, put-length p, number-room (k .result) (omega arith)))
+    (four-whole image (k .result) is (c .before .if2 .taken), omega (arith, put-length p, number-end p (omega arith)))
 
 returns-2 : tie.Need-returns-2
 returns-2 c =
@@ -49,7 +49,7 @@ returns-2 c =
     let is = k .ensures ∙ c .before .before .before .before .before .before .before .image-answer .ensures in
     let p = c .before .before .before .before .put-number .ensures in
     let q = c .put-flaw .ensures in
-    (rw (four-named image (k .result) is (c .before .before .if2 .taken)) (put-then p (q .0)), omega (arith, q .1, p .place, number-room (k .result) (omega arith)))
+    (rw (four-named image (k .result) is (c .before .before .if2 .taken)) (put-then p (q .0)), omega (arith, q .1, number-end p (omega arith)))
 
 returns-3 : tie.Need-returns-3
 returns-3 c =
@@ -57,7 +57,7 @@ returns-3 c =
     let k = c .before .before .before .before .number in
     let is = k .ensures ∙ c .before .before .before .before .before .image-answer .ensures in
     let p = c .before .before .put-number .ensures in
-    (rw (others-alone image (k .result) is (c .before .if1 .left) (c .if2 .left)) p, omega (arith, p .place, number-room (k .result) (omega arith)))
+    (rw (others-alone image (k .result) is (c .before .if1 .left) (c .if2 .left)) p, omega (arith, number-end p (omega arith)))
 
 pub explain-spec : {M : Type 1} → statement M
 explain-spec =

@@ -41,4 +41,14 @@ returns c =
     (c .before .before .put-figure-line3 .ensures)
 
 pub put-head-spec : {M : Type 1} → statement M
-put-head-spec = tie.close (tie.spec slice-aggregate-put-figure-line put-figure-line-requires slice-aggregate-put-figure-line-2 put-figure-line-requires-2 slice-aggregate-put-figure-line-3 put-figure-line-requires-3 same-length returns)
+put-head-spec =
+    tie.close
+    (tie.spec
+    slice-aggregate-put-figure-line
+    put-figure-line-requires
+    slice-aggregate-put-figure-line-2
+    put-figure-line-requires-2
+    slice-aggregate-put-figure-line-3
+    put-figure-line-requires-3
+    same-length
+    returns)

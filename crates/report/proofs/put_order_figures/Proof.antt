@@ -38,4 +38,13 @@ returns c =
     (c .before .before .put-figure2 .ensures)
 
 pub put-order-figures-spec : {M : Type 1} → statement M
-put-order-figures-spec = tie.close (tie.spec put-order-ticks-requires slice-aggregate-put-figure put-figure-requires slice-aggregate-put-figure-2 put-figure-requires-2 same-length returns)
+put-order-figures-spec =
+    tie.close
+    (tie.spec
+    put-order-ticks-requires
+    slice-aggregate-put-figure
+    put-figure-requires
+    slice-aggregate-put-figure-2
+    put-figure-requires-2
+    same-length
+    returns)

@@ -41,4 +41,14 @@ returns c =
     (c .before .before .put-figure3 .ensures)
 
 pub put-order-ticks-spec : {M : Type 1} → statement M
-put-order-ticks-spec = tie.close (tie.spec slice-aggregate-put-figure put-figure-requires slice-aggregate-put-figure-2 put-figure-requires-2 slice-aggregate-put-figure-3 put-figure-requires-3 same-length returns)
+put-order-ticks-spec =
+    tie.close
+    (tie.spec
+    slice-aggregate-put-figure
+    put-figure-requires
+    slice-aggregate-put-figure-2
+    put-figure-requires-2
+    slice-aggregate-put-figure-3
+    put-figure-requires-3
+    same-length
+    returns)

@@ -35,4 +35,12 @@ returns c =
     (c .before .before .put-byte .ensures)
 
 pub put-station-spec : {M : Type 1} → statement M
-put-station-spec = tie.close (tie.spec slice-aggregate-put-figure put-figure-requires put-service-requires put-byte-requires same-length returns)
+put-station-spec =
+    tie.close
+    (tie.spec
+    slice-aggregate-put-figure
+    put-figure-requires
+    put-service-requires
+    put-byte-requires
+    same-length
+    returns)
