@@ -8,20 +8,22 @@ ghost use Rattle.dispatcher.specs.Gives.{Gives};
 use super::reply::put_reply;
 use image::Pipeline;
 use image::layout::IMAGE_SIZE;
+use image::layout::REPLY_SIZE;
 use model::Order;
 use model::Service;
+use model::limits::MAX_STATIONS;
 use questions::Answer;
 
 fn open_answer(image: &[u8], stations: u32, reply: &[u8]) -> Answer
     ensures { λ r. ⌜ numberOf r ≡ openNumber (now (image .entry)) stations (now (reply .entry)) ⌝ }
 {
-    if reply.len() != 16 {
+    if reply.len() != REPLY_SIZE {
         return Answer::ReplyLength;
     }
     if image.len() != IMAGE_SIZE {
         return Answer::ImageLength;
     }
-    if (stations < 1) | (8 < stations) {
+    if (stations < 1) | (MAX_STATIONS < stations) {
         return Answer::Stations;
     }
     Answer::Passed

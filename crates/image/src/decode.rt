@@ -1,15 +1,14 @@
 // What an image says, as a state by value. Whether the image is sound is asked elsewhere: here its records need only be
 // there to be read.
 ghost use mathlib.Core.Path.{_≡_};
-ghost use mathlib.Core.List.{_++_};
 ghost use Prim.Native.Nat.{_<_, _-_};
-ghost use lib.ListN.{length, replicate};
+ghost use lib.ListN.{length};
 ghost use Rattle.model.specs.Lists.{upward};
 ghost use Rattle.model.specs.Limits.{maxStations, maxLive};
 ghost use Rattle.model.specs.Layout.{imageSize, serviceSize, recordSize, servicePart, recordPart};
-ghost use Rattle.model.specs.Image.{liveCount, serviceOf, orderOf};
+ghost use Rattle.model.specs.Image.{serviceOf, orderOf};
 ghost use Rattle.model.specs.Image as says;
-ghost use Rattle.image.specs.Pipeline.{unused as unusedOrder, padded, Readable};
+ghost use Rattle.image.specs.Pipeline.{padded, Readable};
 use super::Pipeline;
 use super::layout::ACCEPTED_AT;
 use super::layout::CLOCK_AT;
@@ -29,6 +28,7 @@ use super::layout::STATION_AT;
 use super::layout::STATION_COUNT_AT;
 use super::layout::SUM_AT;
 use super::layout::TICKET_AT;
+use super::wide;
 use little_endian::read::eight_bytes_at;
 use little_endian::read::eight_halves_at;
 use little_endian::read::u16_at;
@@ -87,12 +87,6 @@ fn wide32(x: u8) -> u32
     ensures { λ r. ⌜ r ≡ x ⌝ }
 {
     x as u32
-}
-
-fn wide(x: u8) -> usize
-    ensures { λ r. ⌜ r ≡ x ⌝ }
-{
-    x as usize
 }
 
 pub fn services_of(image: &[u8]) -> [Service; 8]

@@ -17,6 +17,10 @@ use super::layout::CLOCK_AT;
 use super::layout::COSTS_AT;
 use super::layout::DUE_AT;
 use super::layout::LEFT_AT;
+use super::layout::MARK_C;
+use super::layout::MARK_M;
+use super::layout::MARK_W;
+use super::layout::MARK_W_AT;
 use super::layout::MAXIMA_AT;
 use super::layout::NEXT_AT;
 use super::layout::RANKS_AT;
@@ -28,6 +32,10 @@ use super::layout::SERVICE_ZERO_AT;
 use super::layout::SERVICES_AT;
 use super::layout::STATION_AT;
 use super::layout::SUM_AT;
+use super::layout::VERSION_HIGH;
+use super::layout::VERSION_HIGH_AT;
+use super::layout::VERSION_LOW;
+use super::wide;
 use little_endian::write::put_eight_bytes;
 use little_endian::write::put_eight_halves;
 use little_endian::write::put_four;
@@ -41,8 +49,8 @@ fn put_header(image: &mut [u8], n: u8, live: u8, clock: u32, next: u32)
     requires { ⌜ length (now image) ≡ imageSize ⌝ }
     ensures { λ _. ⌜ Stored (now (image .entry)) 0 (mark ++ twoBytes version ++ (n ∷ live ∷ 0 ∷ []) ++ fourBytes clock ++ fourBytes next) (now (image .exit)) ⌝ }
 {
-    put_four(image, 0, 87, 77, 67, 1);
-    put_four(image, 4, 0, n, live, 0);
+    put_four(image, MARK_W_AT, MARK_W, MARK_M, MARK_C, VERSION_LOW);
+    put_four(image, VERSION_HIGH_AT, VERSION_HIGH, n, live, 0);
     put_u32(image, CLOCK_AT, clock);
     put_u32(image, NEXT_AT, next);
 }
@@ -114,12 +122,6 @@ fn put_zeros(out: &mut [u8], from: usize)
         out[i] = 0;
         i += 1;
     }
-}
-
-fn wide(x: u8) -> usize
-    ensures { λ r. ⌜ r ≡ x ⌝ }
-{
-    x as usize
 }
 
 // Neither an image with a byte of the old one left beyond the live records, nor one with another state's clock, meets the promise.

@@ -1,8 +1,28 @@
-// Document 01, "The image": the place of every field, counted from 0, as `Layout` of the model has it. Code names an
-// offset by these and in no other way.
+// Document 01, "The image", and the reply: the place of every field, counted from 0, as `Layout` of the model has it. Code
+// names an offset by these and in no other way.
 pub const IMAGE_SIZE: usize = 2128;
 
+pub const MARK_W_AT: usize = 0;
+
+pub const MARK_M_AT: usize = 1;
+
+pub const MARK_C_AT: usize = 2;
+
+pub const MARK_W: u8 = b'W';
+
+pub const MARK_M: u8 = b'M';
+
+pub const MARK_C: u8 = b'C';
+
 pub const VERSION_AT: usize = 3;
+
+pub const VERSION_HIGH_AT: usize = 4;
+
+pub const VERSION: u16 = 1;
+
+pub const VERSION_LOW: u8 = 1;
+
+pub const VERSION_HIGH: u8 = 0;
 
 pub const STATION_COUNT_AT: usize = 5;
 
@@ -47,3 +67,13 @@ pub const COSTS_AT: usize = 28;
 pub const MAXIMA_AT: usize = 44;
 
 pub const RECORD_ZERO_AT: usize = 60;
+
+pub const REPLY_SIZE: usize = 16;
+
+pub const REPLY_NUMBER_AT: usize = 0;
+
+pub const REPLY_TICKET_AT: usize = 4;
+
+pub const REPLY_TICK_AT: usize = 8;
+
+pub const REPLY_MARGIN_AT: usize = 12;

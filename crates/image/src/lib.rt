@@ -3,6 +3,7 @@ pub mod layout; // layout.rt: the place of every field
 pub mod decode; // decode.rt: what an image says
 pub mod encode; // encode.rt: the image that says it
 
+ghost use mathlib.Core.Path.{_≡_};
 use model::Order;
 use model::Service;
 
@@ -14,4 +15,10 @@ pub struct Pipeline {
     pub next: u32,
     pub services: [Service; 8],
     pub orders: [Order; 32],
+}
+
+fn wide(x: u8) -> usize
+    ensures { λ r. ⌜ r ≡ x ⌝ }
+{
+    x as usize
 }

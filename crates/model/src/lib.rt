@@ -1,4 +1,5 @@
-// What an image holds of a station and of a live order. The definitions are in specs/, the worked cases in proofs/.
+// What an image holds of a station and of a live order, and document 01's limits. The definitions are in specs/, the worked cases in proofs/.
+pub mod limits; // limits.rt: the figures
 
 // A station's service entry: the ticket in service and its ticks to go; (0, 0) is idle.
 pub struct Service {

@@ -4,6 +4,9 @@ ghost use mathlib.Core.List.{_∷_};
 ghost use Rattle.model.specs.Questions.{firstNo};
 ghost use Rattle.model.specs.Calls.{replyQuestion, imageQuestions};
 ghost use Rattle.probe.specs.Recode.{Recoded};
+use image::layout::IMAGE_SIZE;
+use image::layout::LIVE_COUNT_AT;
+use model::limits::MAX_LIVE;
 
 // The number that questions 1 to 4 give. Neither 0 for an unsound image nor 4 beside a reply of 15 bytes meets the promise.
 #[no_mangle]
@@ -18,10 +21,10 @@ pub extern "C" fn probe_number(image: &[u8], reply: &[u8]) -> u32
 pub extern "C" fn probe_recode(image: &mut [u8]) -> u32
     ensures { λ r. ⌜ Recoded (now (image .entry)) r (now (image .exit)) ⌝ }
 {
-    if image.len() != 2128 {
+    if image.len() != IMAGE_SIZE {
         return 2;
     }
-    if 32 < image[6] {
+    if MAX_LIVE < image[LIVE_COUNT_AT] {
         return 4;
     }
     let p = image::decode::decode(image);

@@ -1,6 +1,6 @@
 -- The first "no" among the questions that are asked of the image, case by case.
-use mathlib.Core.Path.{_≡_, refl}
-use mathlib.Core.Bool.{Bool, true, false, _&&_}
+use mathlib.Core.Path.{_≡_}
+use mathlib.Core.Bool.{true, false, _&&_}
 use mathlib.Core.List.{List, _∷_}
 use Prim.Native.Nat.{ℕ, _≤_}
 use native.Mathlib.Omega.{arith}
@@ -9,16 +9,13 @@ use lib.Dec.{eqb}
 use lib.Seq.{take-suc}
 use borrow.Author.Tests.{eq-eqb, ne-eqb}
 use Rattle.model.specs.Lists.{same}
+use Rattle.lists.proofs.Tests.{and-true}
 use Rattle.model.specs.Bytes.{half}
 use Rattle.model.specs.Layout.{imageSize, replySize, versionAt, version}
 use Rattle.model.specs.Image.{marked}
 use Rattle.model.specs.Soundness.{sound}
 use Rattle.model.specs.Questions.{firstNo}
 use Rattle.model.specs.Calls.{replyQuestion, lengthQuestion, imageQuestions}
-
-and-true : (b : Bool) → (b && true) ≡ b
-and-true true = refl
-and-true false = refl
 
 -- The mark by its three bytes.
 pub marked-is : (image : List ℕ) → 3 ≤ length image → marked image ≡ ((eqb (getD image 0 0) 87 && (eqb (getD image 1 0) 77 && eqb (getD image 2 0) 67)) && eqb (half image versionAt) version)

@@ -8,6 +8,14 @@ ghost use Rattle.model.specs.Questions.{firstNo};
 ghost use Rattle.model.specs.Calls.{replyQuestion, imageQuestions};
 ghost use Rattle.questions.specs.Answer.{numberOf};
 use image::layout::IMAGE_SIZE;
+use image::layout::MARK_C;
+use image::layout::MARK_C_AT;
+use image::layout::MARK_M;
+use image::layout::MARK_M_AT;
+use image::layout::MARK_W;
+use image::layout::MARK_W_AT;
+use image::layout::REPLY_SIZE;
+use image::layout::VERSION;
 use image::layout::VERSION_AT;
 use little_endian::read::u16_at;
 
@@ -40,7 +48,9 @@ fn marked(image: &[u8]) -> bool
     requires { ⌜ length (now image) ≡ imageSize ⌝ }
     ensures { λ r. ⌜ r ≡ says.marked (now (image .entry)) ⌝ }
 {
-    (image[0] == 87) & ((image[1] == 77) & (image[2] == 67)) & (u16_at(image, VERSION_AT) == 1)
+    (image[MARK_W_AT] == MARK_W)
+        & ((image[MARK_M_AT] == MARK_M) & (image[MARK_C_AT] == MARK_C))
+        & (u16_at(image, VERSION_AT) == VERSION)
 }
 
 // Questions 2 to 4, of any bytes. Neither 4 for an image without the mark nor a sound image turned away meets the promise.
@@ -63,7 +73,7 @@ pub fn image_answer(image: &[u8]) -> Answer
 pub fn answer_to(image: &[u8], reply: &[u8]) -> Answer
     ensures { λ r. ⌜ numberOf r ≡ firstNo (replyQuestion (now (reply .entry)) ∷ imageQuestions (now (image .entry))) ⌝ }
 {
-    if reply.len() != 16 {
+    if reply.len() != REPLY_SIZE {
         return Answer::ReplyLength;
     }
     image_answer(image)

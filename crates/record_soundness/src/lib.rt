@@ -6,6 +6,8 @@ ghost use Rattle.model.specs.Soundness.{dueInRange, stationInUse, sumInRange, r
 ghost use Rattle.model.specs.DelayBound.{onTime};
 ghost use Rattle.record_soundness.specs.Record.{testsOf, bothOf};
 use model::Order;
+use model::limits::LAST_TICK;
+use model::limits::MAX_DUE_IN;
 
 // The clauses of one record, or of several together.
 pub struct Tests {
@@ -31,7 +33,7 @@ fn due_in_range(o: Order) -> bool
 {
     let accepted = wide(o.accepted);
     let due = wide(o.due);
-    (accepted + 1 <= due) & (due <= accepted + 60000) & (due <= 4000000000)
+    (accepted + 1 <= due) & (due <= accepted + MAX_DUE_IN) & (o.due <= LAST_TICK)
 }
 
 // "station 1 to N"

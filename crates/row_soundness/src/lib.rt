@@ -2,13 +2,14 @@
 // of n beside the entry's, so that a compiler can take the entries together.
 ghost use mathlib.Core.Path.{_≡_};
 ghost use mathlib.Core.Bool.{cond};
-ghost use Prim.Native.Nat.{_+_, _-_, _*_, _≤_, _<_, max};
+ghost use Prim.Native.Nat.{_+_, _-_, _≤_, _<_, max};
 ghost use lib.ListN.{take};
 ghost use lib.Dec.{ltb};
 ghost use Rattle.model.specs.Lists.{total};
 ghost use Rattle.model.specs.Lists as lists;
 ghost use Rattle.model.specs.Soundness.{costsInRange, zeroBeyond};
 ghost use Rattle.row_soundness.specs.Maxima.{maximaHold};
+use model::limits::MAX_COST;
 
 fn wide(x: u16) -> u32
     ensures { λ r. ⌜ (r ≡ x) × (r < 65536) ⌝ }
@@ -37,7 +38,7 @@ pub fn costs_in_range(n: u32, costs: [u16; 8]) -> bool
     let mut k: usize = 0;
     while k < 8 {
         let c = costs[k];
-        holds = holds & ((n as usize <= k) | ((1 <= c) & (c <= 6000)));
+        holds = holds & ((n as usize <= k) | ((1 <= c) & (c <= MAX_COST)));
         k += 1;
     }
     holds
@@ -51,7 +52,7 @@ pub fn maxima_in_range(n: u32, costs: [u16; 8], maxima: [u16; 8]) -> bool
     let mut k: usize = 0;
     while k < 8 {
         let m = maxima[k];
-        holds = holds & ((n as usize <= k) | ((costs[k] <= m) & (m <= 6000)));
+        holds = holds & ((n as usize <= k) | ((costs[k] <= m) & (m <= MAX_COST)));
         k += 1;
     }
     holds

@@ -12,6 +12,7 @@ use borrow.Author.Tests.{leb-true, leb-false, eqb-true, eqb-false}
 use Rattle.model.specs.declared.Order.{Order}
 use Rattle.model.specs.declared.Service.{Service}
 use Rattle.model.specs.Lists.{at, largest, larger, all, only, numbered}
+pub use Rattle.lists.proofs.Tests.{and-both, length-numbered}
 use Rattle.schedule.specs.Valid.{_∈_, RisingBy, Rising}
 
 -- ---- tests: each answer with the fact that it tells
@@ -43,10 +44,6 @@ pub by-cond : {A : Type 0} (P : A → Type 0) (b : Bool) {x y : A} → P x → P
 by-cond P true p q = p
 by-cond P false p q = q
 
-pub and-both : (a b : Bool) → (a && b) ≡ true → (a ≡ true) × (b ≡ true)
-and-both true b e = (refl, e)
-and-both false b e = absurd (true≢false (sym e))
-
 pub all-member : {A : Type 0} (p : A → Bool) (l : List A) → all p l ≡ true → {a : A} → a ∈ l → p a ≡ true
 unfolding all
 all-member p [] e m = absurd (List·Memᴰ·not-nil m)
@@ -77,11 +74,6 @@ pub at-replicate : {A : Type 0} (n : ℕ) (d : A) (k : ℕ) → at d (replicate 
 at-replicate n d zero = refl
 at-replicate zero d (suc k) = refl
 at-replicate (suc n) d (suc k) = at-replicate n d k
-
-pub length-numbered : {A B : Type 0} (f : ℕ → A → B) (k : ℕ) (l : List A) → length (numbered f k l) ≡ length l
-unfolding numbered
-length-numbered f k [] = refl
-length-numbered f k (x ∷ xs) = ap suc (length-numbered f (suc k) xs)
 
 getD-numbered : {A B : Type 0} (f : ℕ → A → B) (k : ℕ) (l : List A) (d : A) (e : B) (i : ℕ) → i < length l → getD (numbered f k l) i e ≡ f (k + i) (getD l i d)
 unfolding numbered

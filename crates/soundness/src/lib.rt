@@ -21,6 +21,9 @@ use image_soundness::tickets::tickets_in_order;
 use image_soundness::zeros::unused_records_zero;
 use image_soundness::zeros::zero_bytes_zero;
 use little_endian::read::u32_at;
+use model::limits::LAST_TICK;
+use model::limits::MAX_LIVE;
+use model::limits::MAX_STATIONS;
 
 // The first clause that fails, in document 01's order.
 pub enum Flaw {
@@ -75,7 +78,7 @@ fn later_clauses(image: &[u8], n: u32, live: usize) -> Clauses
     let services = services_of(image);
     let tests = records::all_tested(image, n, live, clock);
     Clauses {
-        clock: clock <= 4000000000,
+        clock: clock <= LAST_TICK,
         zero_bytes: zero_bytes_zero(image, live),
         unused_records: unused_records_zero(image, live),
         tickets: tickets_in_order(image, live, next),
@@ -144,11 +147,11 @@ pub fn first_flaw(image: &[u8]) -> Flaw
     ensures { λ r. ⌜ r ≡ firstFlaw (now (image .entry)) ⌝ }
 {
     let n = wide(image[STATION_COUNT_AT]);
-    if (n < 1) | (8 < n) {
+    if (n < 1) | (MAX_STATIONS < n) {
         return Flaw::StationCount;
     }
-    let live = wide(image[LIVE_COUNT_AT]);
-    if 32 < live {
+    let live = image[LIVE_COUNT_AT];
+    if MAX_LIVE < live {
         return Flaw::LiveCount;
     }
     flaw_of(later_clauses(image, n, live as usize))

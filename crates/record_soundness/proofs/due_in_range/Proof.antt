@@ -18,7 +18,7 @@ add-result-2 c = search needs
 
 returns : tie.Need-returns
 unfolding dueInRange
-returns c = rw (c .before .wide .ensures .0, c .wide2 .ensures .0)
+returns c = rw (c .before .before .wide .ensures .0, c .before .wide2 .ensures .0)
 
 pub due-in-range-spec : {M : Type 1} → statement M
 due-in-range-spec =

@@ -16,14 +16,11 @@ wide-requires c κs = search needs
 returns : tie.Need-returns
 returns c = count-flaw _ (c .before .wide .ensures) (c .if1 .taken)
 
-shared-slice-read-wide-2 : tie.Need-shared-slice-read-wide-2
-shared-slice-read-wide-2 c = search needs
-
-wide-requires-2 : tie.Need-wide-requires-2
-wide-requires-2 c κs = search needs
+shared-slice-read-live : tie.Need-shared-slice-read-live
+shared-slice-read-live c = search needs
 
 returns-2 : tie.Need-returns-2
-returns-2 c = live-flaw _ (c .before .before .before .before .wide .ensures) (c .before .before .before .if1 .left) (omega arith)
+returns-2 c = live-flaw _ (c .before .before .before .wide .ensures) (c .before .before .if1 .left) (omega arith)
 
 cast-later-clauses : tie.Need-cast-later-clauses
 cast-later-clauses c = search needs
@@ -35,7 +32,7 @@ flaw-of-requires : tie.Need-flaw-of-requires
 flaw-of-requires c κs = search needs
 
 returns-3 : tie.Need-returns-3
-returns-3 c = c .flaw-of .ensures ∙ ap flawOf (c .before .later-clauses .ensures) ∙ later-flaw _ (c .before .before .before .before .before .before .wide .ensures) (c .before .before .before .before .before .if1 .left) (omega arith)
+returns-3 c = c .flaw-of .ensures ∙ ap flawOf (c .before .later-clauses .ensures) ∙ later-flaw _ (c .before .before .before .before .before .wide .ensures) (c .before .before .before .before .if1 .left) (omega arith)
 
 pub first-flaw-spec : {M : Type 1} → statement M
 first-flaw-spec =
@@ -44,8 +41,7 @@ first-flaw-spec =
     shared-slice-read-wide
     wide-requires
     returns
-    shared-slice-read-wide-2
-    wide-requires-2
+    shared-slice-read-live
     returns-2
     cast-later-clauses
     later-clauses-requires

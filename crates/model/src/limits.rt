@@ -1,0 +1,10 @@
+// The figures of document 01, as `Limits` of the definitions has them. Code names them by these and in no other way.
+pub const MAX_STATIONS: u32 = 8;
+
+pub const MAX_COST: u16 = 6000;
+
+pub const MAX_DUE_IN: u64 = 60000;
+
+pub const MAX_LIVE: u8 = 32;
+
+pub const LAST_TICK: u32 = 4000000000;
