@@ -1,7 +1,7 @@
 // What an image says, as a state by value. Whether the image is sound is asked elsewhere: here its records need only be
 // there to be read.
 ghost use mathlib.Core.Path.{_≡_};
-ghost use Prim.Native.Nat.{_<_, _-_};
+ghost use Prim.Native.Nat.{_<_};
 ghost use lib.ListN.{length};
 ghost use Rattle.model.specs.Lists.{upward};
 ghost use Rattle.model.specs.Limits.{maxStations, maxLive};
