@@ -49,7 +49,11 @@ simulate=$simulator/target/harness/release/second-simulator
 build_simulator() {
     need cargo "the second simulator is written in Rust"
     mkdir -p "$simulator"
+    # Scripts may run at the same time: one of them copies and builds, and the other waits for it.
+    exec 9> target/second-simulator.lock
+    flock 9
     cp -Rp tests/second-simulator/. "$simulator/" || die "cannot copy the second simulator"
     # The same folder as run-harness.sh uses, so that nothing is compiled twice.
     (cd "$simulator" && cargo build --offline --locked --release -q --target-dir target/harness) || die "the second simulator is not built"
+    flock -u 9
 }
