@@ -1,11 +1,10 @@
 -- The room that the parts of a report take. A sound image's state is in range, since an image is bytes.
-use mathlib.Core.Path.{_≡_}
+use mathlib.Core.Path.{_≡_, ap}
 use mathlib.Core.Bool.{true}
 use mathlib.Core.List.{List}
-use Prim.Native.Nat.{ℕ, _≤_, _<_}
+use Prim.Native.Nat.{ℕ, _+_, _-_, _≤_, _<_}
 use native.Mathlib.Omega.{arith}
-use lib.ListN.{length, take, length-append}
-use lib.Seq.{length-take-le}
+use lib.ListN.{length, take, drop, length-append, length-take}
 use Rattle.model.specs.Limits.{maxStations, maxLive}
 use Rattle.model.specs.Layout.{imageSize}
 use Rattle.model.specs.Image.{decode}
@@ -20,8 +19,8 @@ use Rattle.roundtrip.proofs.Sound.{sound-gives}
 use Rattle.report.specs.Report.{lineFeed, figureLine, stateReport, clauseLine}
 use Rattle.report.proofs.Lengths.{length-clause}
 use Rattle.report.proofs.Room.{state-room}
-use Rattle.inspection.specs.declared.Name.{Name}
-use Rattle.inspection.specs.Explained.{Named}
+use Rattle.inspection.specs.declared.Span.{Span}
+use Rattle.inspection.specs.Explained.{names, Named}
 
 pub number-room : (number : ℕ) → number < wordLimit → length (figureLine "number " number) ≤ 18
 number-room number h = omega (arith, length-append (decimal number) lineFeed, length-decimal 9 number (omega arith))
@@ -30,8 +29,13 @@ number-room number h = omega (arith, length-append (decimal number) lineFeed, le
 pub number-end : {l m : List ℕ} {number end : ℕ} → Put l 0 (figureLine "number " number) end m → number < wordLimit → end ≤ 18
 number-end {number = number} p h = omega (arith, p .place, number-room number h)
 
-pub clause-room : {name : List ℕ} {r : Name} → Named name r → length (clauseLine (take (r .1) (r .0))) ≤ 22
-clause-room {name} {r} n = omega (arith, length-clause (take (r .1) (r .0)), length-take-le (r .1) (r .0) (n .inside), n .short)
+-- The part of the names that is lent is the name.
+pub named-part : {name : List ℕ} {r : Span} → Named name r → take ((r .start + r .size) - r .start) (drop (r .start) names) ≡ name
+named-part {name} {r} n = let e : (r .start + r .size) - r .start ≡ r .size = omega arith in rw e (n .is)
+
+pub clause-room : {name : List ℕ} {r : Span} → Named name r → length (clauseLine name) ≤ 22
+clause-room {name} {r} n =
+    omega (arith, length-clause name, ap length (n .is), length-take (r .size) (drop (r .start) names), n .short)
 
 -- What a sound image says can be held by the code's state, and be printed.
 pub record Held (image : List ℕ) : Type 0 where

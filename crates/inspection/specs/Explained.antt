@@ -2,8 +2,8 @@
 -- clause of "Sound means" the first such clause by name.
 use mathlib.Core.Path.{_≡_}
 use mathlib.Core.List.{List, []}
-use Prim.Native.Nat.{ℕ, _≤_}
-use lib.ListN.{length, take}
+use Prim.Native.Nat.{ℕ, _+_, _≤_}
+use lib.ListN.{take, drop}
 use Rattle.model.specs.Image.{decode}
 use Rattle.model.specs.Questions.{firstNo}
 use Rattle.model.specs.Calls.{imageQuestions}
@@ -12,7 +12,7 @@ use Rattle.report.specs.Report.{report}
 use Rattle.soundness.specs.declared.Flaw.{Flaw}
 use Rattle.soundness.specs.declared.Flaw.the-variants.{Nothing, StationCount, LiveCount, Clock, ZeroBytes, UnusedRecords, Tickets, Acceptance, Due, Station, Costs, Maxima, Sum, OnTime, Beyond, Services}
 use Rattle.soundness.specs.Flaw.{firstFlaw}
-use Rattle.inspection.specs.declared.Name.{Name}
+use Rattle.inspection.specs.declared.Span.{Span}
 
 -- The clauses by name, in document 01's order.
 abbrev pub flawName : Flaw → List ℕ
@@ -33,11 +33,14 @@ flawName OnTime = ascii "on-time"
 flawName Beyond = ascii "beyond"
 flawName Services = ascii "services"
 
--- A name as the code holds it.
-pub record Named (name : List ℕ) (r : Name) : Type 0 where
-  pub inside : r .1 ≤ length (r .0)
-  pub short : r .1 ≤ 14
-  pub is : take (r .1) (r .0) ≡ name
+-- All of them in a row, and where one of them stands there.
+abbrev pub names : List ℕ
+names = ascii "station-count live-count clock zero-bytes unused-records tickets acceptance due station costs maxima sum on-time beyond services"
+
+pub record Named (name : List ℕ) (r : Span) : Type 0 where
+  pub inside : r .start + r .size ≤ 128
+  pub short : r .size ≤ 14
+  pub is : take (r .size) (drop (r .start) names) ≡ name
 
 unfoldable pub explained : List ℕ → List ℕ
 explained image = report (firstNo (imageQuestions image)) (flawName (firstFlaw image)) (decode image)

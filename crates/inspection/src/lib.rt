@@ -13,29 +13,60 @@ ghost use Rattle.inspection.specs.Explained.{flawName, Named, explained}
 use image::decode::decode;
 use soundness::Flaw;
 
-// A clause's name: a text, and how many bytes of it the name takes. The longest takes all.
-struct Name([u8; 14], usize);
+// The names of the clauses, in document 01's order.
+const NAMES: [u8; 128] =
+    *b"station-count live-count clock zero-bytes unused-records tickets acceptance due station costs maxima sum on-time beyond services";
 
-fn name_of(flaw: Flaw) -> Name
+// Where a clause's name stands among them.
+struct Span {
+    start: usize,
+    size: usize,
+}
+
+fn span_of(flaw: Flaw) -> Span
     ensures { λ r. ⌜ Named (flawName flaw) r ⌝ }
 {
     match flaw {
-        Flaw::Nothing => Name(*b"              ", 0),
-        Flaw::StationCount => Name(*b"station-count ", 13),
-        Flaw::LiveCount => Name(*b"live-count    ", 10),
-        Flaw::Clock => Name(*b"clock         ", 5),
-        Flaw::ZeroBytes => Name(*b"zero-bytes    ", 10),
-        Flaw::UnusedRecords => Name(*b"unused-records", 14),
-        Flaw::Tickets => Name(*b"tickets       ", 7),
-        Flaw::Acceptance => Name(*b"acceptance    ", 10),
-        Flaw::Due => Name(*b"due           ", 3),
-        Flaw::Station => Name(*b"station       ", 7),
-        Flaw::Costs => Name(*b"costs         ", 5),
-        Flaw::Maxima => Name(*b"maxima        ", 6),
-        Flaw::Sum => Name(*b"sum           ", 3),
-        Flaw::OnTime => Name(*b"on-time       ", 7),
-        Flaw::Beyond => Name(*b"beyond        ", 6),
-        Flaw::Services => Name(*b"services      ", 8),
+        Flaw::Nothing => Span { start: 0, size: 0 },
+        Flaw::StationCount => Span { start: 0, size: 13 },
+        Flaw::LiveCount => Span {
+            start: 14,
+            size: 10,
+        },
+        Flaw::Clock => Span { start: 25, size: 5 },
+        Flaw::ZeroBytes => Span {
+            start: 31,
+            size: 10,
+        },
+        Flaw::UnusedRecords => Span {
+            start: 42,
+            size: 14,
+        },
+        Flaw::Tickets => Span { start: 57, size: 7 },
+        Flaw::Acceptance => Span {
+            start: 65,
+            size: 10,
+        },
+        Flaw::Due => Span { start: 76, size: 3 },
+        Flaw::Station => Span { start: 80, size: 7 },
+        Flaw::Costs => Span { start: 88, size: 5 },
+        Flaw::Maxima => Span { start: 94, size: 6 },
+        Flaw::Sum => Span {
+            start: 101,
+            size: 3,
+        },
+        Flaw::OnTime => Span {
+            start: 105,
+            size: 7,
+        },
+        Flaw::Beyond => Span {
+            start: 113,
+            size: 6,
+        },
+        Flaw::Services => Span {
+            start: 120,
+            size: 8,
+        },
     }
 }
 
@@ -53,10 +84,11 @@ fn put_flaw(out: &mut [u8], at: usize, image: &[u8]) -> usize
     requires { ⌜ (length (now image) ≡ imageSize) × (at + 22 ≤ length (now out)) ⌝ }
     ensures { λ r. ⌜ Put (now (out .entry)) at (clauseLine (flawName (firstFlaw (now (image .entry))))) r (now (out .exit)) × (r ≤ at + 22) ⌝ }
 {
-    let name = name_of(soundness::first_flaw(image));
-    let text = name.0;
-    let size = name.1;
-    report::put_clause(out, at, &text[..size])
+    let span = span_of(soundness::first_flaw(image));
+    let start = span.start;
+    let end = start + span.size;
+    let names = NAMES;
+    report::put_clause(out, at, &names[start..end])
 }
 
 // What there is to say of any bytes, and how many bytes of the buffer it takes. Ruled out: the state of an image that is not

@@ -1,45 +1,58 @@
--- `put_flaw` prints the line of the first clause that fails, by the name that `name_of` holds.
-use mathlib.Core.Path.{ap, sym, _∙_}
+-- `put_flaw` prints the line of the first clause that fails, by the part of the names that `span_of` gives.
+use mathlib.Core.Path.{ap, _∙_}
 use native.Mathlib.Omega.{arith}
-use lib.Seq.{length-take-le}
+use lib.ListN.{length}
+use borrow.Author.Needs.{needs}
+use Rattle.report.specs.Report.{clauseLine}
 use Rattle.inspection.specs.Explained.{flawName}
-use Rattle.inspection.proofs.Rooms.{clause-room}
+use Rattle.inspection.proofs.Rooms.{named-part, clause-room}
 use Rattle.inspection.proofs.put_flaw.Statement.{statement}
 use Rattle.inspection.proofs.put_flaw.Tie as tie
 
 first-flaw-requires : tie.Need-first-flaw-requires
-first-flaw-requires c κs = c .before .before .pre .0
+first-flaw-requires c κs = search needs
 
-name-of-requires : tie.Need-name-of-requires
-name-of-requires c κs = tt
+span-of-requires : tie.Need-span-of-requires
+span-of-requires c κs = search needs
 
-array-share-prefix-text : tie.Need-array-share-prefix-text
-array-share-prefix-text c = c .before .before .name-of .ensures .inside
+add-end : tie.Need-add-end
+add-end c = search needs
 
-slice-aggregate-put-clause : tie.Need-slice-aggregate-put-clause
-slice-aggregate-put-clause c = let k = c .before .before .before .name-of in sym (length-take-le (k .result .1) (k .result .0) (k .ensures .inside))
+sub-put-clause : tie.Need-sub-put-clause
+sub-put-clause c = search needs
+
+part-put-clause-start : tie.Need-part-put-clause-start
+part-put-clause-start c = search needs
+
+part-put-clause-end : tie.Need-part-put-clause-end
+part-put-clause-end c = search needs
 
 put-clause-requires : tie.Need-put-clause-requires
-put-clause-requires c κs = omega (arith, clause-room (c .before .before .before .name-of .ensures))
+put-clause-requires c κs =
+    let k = c .before .before .before .before .span-of .ensures in
+    rw (named-part k) (omega (arith, clause-room k))
 
 same-length : tie.Need-same-length
-same-length c = omega arith
+same-length c = search needs
 
 returns : tie.Need-returns
 returns c =
-    let k = c .before .before .before .before .before .before .name-of .ensures in
-    let e = k .is ∙ ap flawName (c .before .before .before .before .before .before .before .first-flaw .ensures) in
+    let k = c .before .before .before .before .before .before .before in
+    let named = k .span-of .ensures in
     let p = c .before .before .put-clause .ensures in
-    (rw e at p, omega (arith, p .place, clause-room k))
+    let e = named-part named ∙ ap flawName (k .before .first-flaw .ensures) in
+    (rw e at p, omega (arith, p .place, ap length (ap clauseLine (named-part named)), clause-room named))
 
 pub put-flaw-spec : {M : Type 1} → statement M
 put-flaw-spec =
     tie.close
     (tie.spec
     first-flaw-requires
-    name-of-requires
-    array-share-prefix-text
-    slice-aggregate-put-clause
+    span-of-requires
+    add-end
+    sub-put-clause
+    part-put-clause-start
+    part-put-clause-end
     put-clause-requires
     same-length
     returns)
