@@ -30,12 +30,12 @@ pub number-end : {l m : List ℕ} {number end : ℕ} → Put l 0 (figureLine "nu
 number-end {number = number} p h = omega (arith, p .place, number-room number h)
 
 -- The part of the names that is lent is the name.
-pub named-part : {name : List ℕ} {r : Span} → Named name r → take ((r .start + r .size) - r .start) (drop (r .start) names) ≡ name
-named-part {name} {r} n = let e : (r .start + r .size) - r .start ≡ r .size = omega arith in rw e (n .is)
+pub named-part : {name : List ℕ} {r : Span} → Named name r → take ((r .0 + r .1) - r .0) (drop (r .0) names) ≡ name
+named-part {name} {r} n = let e : (r .0 + r .1) - r .0 ≡ r .1 = omega arith in rw e (n .is)
 
 pub clause-room : {name : List ℕ} {r : Span} → Named name r → length (clauseLine name) ≤ 22
 clause-room {name} {r} n =
-    omega (arith, length-clause name, ap length (n .is), length-take (r .size) (drop (r .start) names), n .short)
+    omega (arith, length-clause name, ap length (n .is), length-take (r .1) (drop (r .0) names), n .short)
 
 -- What a sound image says can be held by the code's state, and be printed.
 pub record Held (image : List ℕ) : Type 0 where

@@ -38,9 +38,9 @@ abbrev pub names : List ℕ
 names = ascii "station-count live-count clock zero-bytes unused-records tickets acceptance due station costs maxima sum on-time beyond services"
 
 pub record Named (name : List ℕ) (r : Span) : Type 0 where
-  pub inside : r .start + r .size ≤ 128
-  pub short : r .size ≤ 14
-  pub is : take (r .size) (drop (r .start) names) ≡ name
+  pub inside : r .0 + r .1 ≤ 128
+  pub short : r .1 ≤ 14
+  pub is : take (r .1) (drop (r .0) names) ≡ name
 
 unfoldable pub explained : List ℕ → List ℕ
 explained image = report (firstNo (imageQuestions image)) (flawName (firstFlaw image)) (decode image)

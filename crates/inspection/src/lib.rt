@@ -17,56 +17,29 @@ use soundness::Flaw;
 const NAMES: [u8; 128] =
     *b"station-count live-count clock zero-bytes unused-records tickets acceptance due station costs maxima sum on-time beyond services";
 
-// Where a clause's name stands among them.
-struct Span {
-    start: usize,
-    size: usize,
-}
+// Where a clause's name stands among them: its first byte, and how many it has.
+struct Span(usize, usize);
 
 fn span_of(flaw: Flaw) -> Span
     ensures { λ r. ⌜ Named (flawName flaw) r ⌝ }
 {
     match flaw {
-        Flaw::Nothing => Span { start: 0, size: 0 },
-        Flaw::StationCount => Span { start: 0, size: 13 },
-        Flaw::LiveCount => Span {
-            start: 14,
-            size: 10,
-        },
-        Flaw::Clock => Span { start: 25, size: 5 },
-        Flaw::ZeroBytes => Span {
-            start: 31,
-            size: 10,
-        },
-        Flaw::UnusedRecords => Span {
-            start: 42,
-            size: 14,
-        },
-        Flaw::Tickets => Span { start: 57, size: 7 },
-        Flaw::Acceptance => Span {
-            start: 65,
-            size: 10,
-        },
-        Flaw::Due => Span { start: 76, size: 3 },
-        Flaw::Station => Span { start: 80, size: 7 },
-        Flaw::Costs => Span { start: 88, size: 5 },
-        Flaw::Maxima => Span { start: 94, size: 6 },
-        Flaw::Sum => Span {
-            start: 101,
-            size: 3,
-        },
-        Flaw::OnTime => Span {
-            start: 105,
-            size: 7,
-        },
-        Flaw::Beyond => Span {
-            start: 113,
-            size: 6,
-        },
-        Flaw::Services => Span {
-            start: 120,
-            size: 8,
-        },
+        Flaw::Nothing => Span(0, 0),
+        Flaw::StationCount => Span(0, 13),
+        Flaw::LiveCount => Span(14, 10),
+        Flaw::Clock => Span(25, 5),
+        Flaw::ZeroBytes => Span(31, 10),
+        Flaw::UnusedRecords => Span(42, 14),
+        Flaw::Tickets => Span(57, 7),
+        Flaw::Acceptance => Span(65, 10),
+        Flaw::Due => Span(76, 3),
+        Flaw::Station => Span(80, 7),
+        Flaw::Costs => Span(88, 5),
+        Flaw::Maxima => Span(94, 6),
+        Flaw::Sum => Span(101, 3),
+        Flaw::OnTime => Span(105, 7),
+        Flaw::Beyond => Span(113, 6),
+        Flaw::Services => Span(120, 8),
     }
 }
 
@@ -85,8 +58,8 @@ fn put_flaw(out: &mut [u8], at: usize, image: &[u8]) -> usize
     ensures { λ r. ⌜ Put (now (out .entry)) at (clauseLine (flawName (firstFlaw (now (image .entry))))) r (now (out .exit)) × (r ≤ at + 22) ⌝ }
 {
     let span = span_of(soundness::first_flaw(image));
-    let start = span.start;
-    let end = start + span.size;
+    let start = span.0;
+    let end = start + span.1;
     let names = NAMES;
     report::put_clause(out, at, &names[start..end])
 }
