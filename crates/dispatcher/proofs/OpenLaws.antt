@@ -61,20 +61,21 @@ module _ (image : List ℕ) (n : ℕ) (reply : List ℕ) where
         go true true e f = absurd (let z : _≡_ {A = ℕ} 14 0 = stations-no replied whole (rw e) ∙ done in omega arith)
         go false true e f = absurd (let z : _≡_ {A = ℕ} 14 0 = stations-no replied whole (rw (e, f)) ∙ done in omega arith)
 
-  -- The call by its number.
-  pub unheard : 1 ≡ openNumber image n reply → Gives (openCall image n reply) 1 image reply
-  unfolding openCall result
-  unheard e = rw (← e) (record { number-is = refl; image-is = refl; reply-is = refl })
+  -- The call by its number: 1 leaves all as it was, 0 writes the image and the reply, any other the reply alone.
+  module _ (number : ℕ) (is : number ≡ openNumber image n reply) where
+    pub unheard : number ≡ 1 → Gives (openCall image n reply) number image reply
+    unfolding openCall result
+    unheard one = record { number-is = is; image-is = rw (← is, one); reply-is = rw (← is, one) }
 
-  pub opened : 0 ≡ openNumber image n reply → Gives (openCall image n reply) 0 (encode (fresh n)) (fourBytes 0 ++ fourBytes 0 ++ fourBytes 0 ++ fourBytes 0)
-  unfolding openCall result replyBytes
-  opened e = rw (← e) (record { number-is = refl; image-is = refl; reply-is = refl })
+    pub opened : number ≡ 0 → Gives (openCall image n reply) number (encode (fresh n)) (fourBytes number ++ fourBytes 0 ++ fourBytes 0 ++ fourBytes 0)
+    unfolding openCall result replyBytes
+    opened zero = record { number-is = is; image-is = rw (← is, zero); reply-is = rw (← is, zero) }
 
-  pub declined : (number : ℕ) → number ≡ openNumber image n reply → (number ≡ 0 → ⊥) → (number ≡ 1 → ⊥) → Gives (openCall image n reply) number image (fourBytes number ++ fourBytes 0 ++ fourBytes 0 ++ fourBytes 0)
-  unfolding openCall result replyBytes
-  declined number e z o =
-      record {
-        number-is = e;
-        image-is = rw (← e, ne-eqb number 0 z);
-        reply-is = rw (← e, ne-eqb number 1 o);
-      }
+    pub declined : (number ≡ 0 → ⊥) → (number ≡ 1 → ⊥) → Gives (openCall image n reply) number image (fourBytes number ++ fourBytes 0 ++ fourBytes 0 ++ fourBytes 0)
+    unfolding openCall result replyBytes
+    declined zero one =
+        record {
+          number-is = is;
+          image-is = rw (← is, ne-eqb number 0 zero);
+          reply-is = rw (← is, ne-eqb number 1 one);
+        }

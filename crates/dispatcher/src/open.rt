@@ -59,12 +59,12 @@ pub extern "C" fn dispatcher_open(image: &mut [u8], stations: u32, reply: &mut [
 {
     let number = questions::number(open_answer(image, stations, reply));
     if number == 1 {
-        return 1;
+        return number;
     }
     if number == 0 {
         image::encode::encode(image, fresh((stations % 256) as u8));
-        put_reply(reply, 0, 0, 0, 0);
-        return 0;
+        put_reply(reply, number, 0, 0, 0);
+        return number;
     }
     put_reply(reply, number, 0, 0, 0);
     number

@@ -102,7 +102,7 @@ pub fn services_of(image: &[u8]) -> [Service; 8]
     services
 }
 
-// Neither a state with the records beyond the live ones read, nor one with the clock and the next ticket exchanged, meets the promise.
+// What an image says. Neither costs read for maxima nor the clock read for the next ticket meets the promise.
 pub fn decode(image: &[u8]) -> Pipeline
     requires { ⌜ Readable (now image) ⌝ }
     ensures { λ r. ⌜ r ≡ padded (says.decode (now (image .entry))) ⌝ }

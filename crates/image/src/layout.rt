@@ -1,5 +1,5 @@
-// Document 01, "The image", and the reply: the place of every field, counted from 0, as `Layout` of the model has it. Code
-// names an offset by these and in no other way.
+// Document 01, "The image", and the reply: the place of every field, counted from 0, as `Layout` of the model has it, named
+// once for all code.
 pub const IMAGE_SIZE: usize = 2128;
 
 pub const MARK_W_AT: usize = 0;

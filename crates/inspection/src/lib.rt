@@ -65,7 +65,7 @@ fn put_flaw(out: &mut [u8], at: usize, image: &[u8]) -> usize
 }
 
 // What there is to say of any bytes, and how many bytes of the buffer it takes. Ruled out: the state of an image that is not
-// sound; a later clause named in the place of an earlier one.
+// sound; a clause named by another's name.
 pub fn explain(image: &[u8], out: &mut [u8; 8192]) -> usize
     ensures { λ r. ⌜ Put (now (out .entry)) 0 (explained (now (image .entry))) r (now (out .exit)) ⌝ }
     ensures within { λ r. ⌜ r ≤ 8192 ⌝ }

@@ -59,22 +59,12 @@ fill-more {l} {m} {i} {j} n a p e =
 pub put-none : (l : List ℕ) (i : ℕ) → Put l i [] i l
 put-none l i = record { place = sym (add-zero i); bytes = stored-none l i }
 
-pub put-one : (l : List ℕ) (i a : ℕ) → Put l i (a ∷ []) (i + 1) (set l i a)
-put-one l i a = record { place = refl; bytes = stored-one l i a }
-
 pub put-then : {l m n : List ℕ} {i j k : ℕ} {vs ws : List ℕ} → Put l i vs j m → Put m j ws k n → Put l i (vs ++ ws) k n
 put-then {l} {m} {n} {i} {j} {k} {vs} {ws} p q =
     record { place = omega (arith, p .place, q .place, length-append vs ws); bytes = stored-then (p .bytes) (p .place) (q .bytes) }
 
 pub put-length : {l m : List ℕ} {i k : ℕ} {vs : List ℕ} → Put l i vs k m → length m ≡ length l
 put-length p = stored-length (p .bytes)
-
--- What was put at the front is what stands before the place after it.
-pub put-front : {l m vs : List ℕ} {k : ℕ} → Put l 0 vs k m → length vs ≤ length l → take k m ≡ vs
-put-front {l} {m} {vs} {k} p h =
-    let n : length vs ≡ k = omega (arith, p .place) in
-    let e : m ≡ vs ++ drop (0 + length vs) l = p .bytes .is ∙ sets-eq vs l 0 (omega arith) in
-    rw e (take-at vs (drop (0 + length vs) l) k n)
 
 -- A copy, one number more, and at its end.
 pub put-more : {l m : List ℕ} {i : ℕ} (n : ℕ) (vs : List ℕ) → Put l i (take n vs) (i + n) m → n < length vs → Put l i (take (n + 1) vs) (i + (n + 1)) (set m (i + n) (getD vs n 0))

@@ -1,4 +1,4 @@
--- Document 01, "The image", and its order block and reply: the place of every field, counted from 0. Named here and nowhere else.
+-- Document 01, "The image", and its order block and reply: the place of every field, counted from 0. Every definition names a place by these.
 use mathlib.Core.List.{List, [], _∷_}
 use Prim.Native.Nat.{ℕ, _+_, _*_}
 use Rattle.model.specs.Lists.{part}

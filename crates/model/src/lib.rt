@@ -1,4 +1,5 @@
-// What an image holds of a station and of a live order, and document 01's limits. The definitions are in specs/, the worked cases in proofs/.
+// What an image holds of a station and of a live order, and document 01's limits. The definitions are in specs/, the worked
+// cases in proofs/.
 pub mod limits; // limits.rt: the figures
 
 // A station's service entry: the ticket in service and its ticks to go; (0, 0) is idle.
@@ -7,7 +8,8 @@ pub struct Service {
     pub left: u16,
 }
 
-// The record of a live order. The station has four bytes so that no byte of an `Order` is padding, and an array of unused ones is a fill. `sum` and `maxima` are over its interference set (document 01: company): the members'
+// The record of a live order. The station has four bytes so that no byte of an `Order` is padding, and an array of
+// unused ones is a fill. `sum` and `maxima` are over its interference set (document 01: company): the members'
 // largest costs added up, and the largest cost that a member has at each station.
 pub struct Order {
     pub ticket: u32,

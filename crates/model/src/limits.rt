@@ -1,4 +1,4 @@
-// The figures of document 01, as `Limits` of the definitions has them. Code names them by these and in no other way.
+// The figures of document 01, as `Limits` of the definitions has them, named once for all code that asks for them.
 pub const MAX_STATIONS: u32 = 8;
 
 pub const MAX_COST: u16 = 6000;

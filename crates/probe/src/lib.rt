@@ -8,7 +8,7 @@ use image::layout::IMAGE_SIZE;
 use image::layout::LIVE_COUNT_AT;
 use model::limits::MAX_LIVE;
 
-// The number that questions 1 to 4 give. Neither 0 for an unsound image nor 4 beside a reply of 15 bytes meets the promise.
+// The number that questions 1 to 4 give.
 #[no_mangle]
 pub extern "C" fn probe_number(image: &[u8], reply: &[u8]) -> u32
     ensures { λ r. ⌜ r ≡ firstNo (replyQuestion (now (reply .entry)) ∷ imageQuestions (now (image .entry))) ⌝ }
@@ -16,7 +16,7 @@ pub extern "C" fn probe_number(image: &[u8], reply: &[u8]) -> u32
     questions::number(questions::answer_to(image, reply))
 }
 
-// Decodes an image and encodes what it says. Neither another number nor a byte changed beside a number other than 0 meets the promise.
+// Decodes an image and encodes what it says; 2 and 4 are declines, which change nothing.
 #[no_mangle]
 pub extern "C" fn probe_recode(image: &mut [u8]) -> u32
     ensures { λ r. ⌜ Recoded (now (image .entry)) r (now (image .exit)) ⌝ }

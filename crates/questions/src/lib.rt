@@ -29,7 +29,7 @@ pub enum Answer {
     Stations,
 }
 
-// Document 01's number for an answer. Neither 0 for a "no" nor one number for two of them meets the promise.
+// Document 01's number for an answer. Neither 0 for a "no" nor one number for two answers meets the promise.
 pub fn number(answer: Answer) -> u32
     ensures { λ r. ⌜ r ≡ numberOf answer ⌝ }
 {
@@ -69,7 +69,8 @@ pub fn image_answer(image: &[u8]) -> Answer
     Answer::Passed
 }
 
-// Questions 1 to 4, of any bytes: what every call on an image asks first. Neither 2 beside a reply of the wrong length nor 1 beside one of 16 bytes meets the promise.
+// Questions 1 to 4, of any bytes: what every call on an image asks first. Neither 2 beside a reply of the wrong length nor 1
+// beside one of 16 bytes meets the promise.
 pub fn answer_to(image: &[u8], reply: &[u8]) -> Answer
     ensures { λ r. ⌜ numberOf r ≡ firstNo (replyQuestion (now (reply .entry)) ∷ imageQuestions (now (image .entry))) ⌝ }
 {

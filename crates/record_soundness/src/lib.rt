@@ -51,7 +51,8 @@ fn sum_in_range(o: Order) -> bool
     row_soundness::largest(costs) <= o.sum
 }
 
-// "the order on time": acceptance tick, stored sum and maxima added up in 64 bits, since in 32 they can wrap.
+// "the order on time": acceptance tick, stored sum and the sum of the maxima are added up in 64 bits, since in 32 they can
+// wrap.
 fn on_time(n: u32, o: Order) -> bool
     ensures { λ r. ⌜ r ≡ onTime n o ⌝ }
 {
@@ -71,7 +72,8 @@ fn zero_beyond(n: u32, o: Order) -> bool
         & row_soundness::zero_beyond(n, maxima)
 }
 
-// Every clause of a record, in a pipeline of n stations whose clock shows `clock`. Neither a maximum above 6,000 let through nor a due tick held against the wrong end meets the promise.
+// Every clause of a record, in a pipeline of n stations whose clock shows `clock`. Neither an order accepted now refused
+// nor one that is out on its due tick meets the promise.
 pub fn tested(n: u32, clock: u32, o: Order) -> Tests
     ensures { λ r. ⌜ r ≡ testsOf n clock o ⌝ }
 {

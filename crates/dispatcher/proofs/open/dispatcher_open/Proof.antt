@@ -36,7 +36,7 @@ empty n p e = omega (arith, ap (λ (q : Pipeline). q .live) e)
 returns : tie.Need-returns
 returns c =
     let k = c .before in
-    unheard _ _ _ (sym (c .if1 .taken) ∙ number-is k)
+    unheard _ _ _ (k .number .result) (number-is k) (c .if1 .taken)
 
 cast-fresh : tie.Need-cast-fresh
 cast-fresh c = search needs
@@ -63,11 +63,11 @@ same-length-4 c = search needs
 returns-2 : tie.Need-returns-2
 returns-2 c =
     let k = c .before .before .before .before .before .before .before .before .before .before .before in
-    let done = sym (c .before .before .before .before .before .before .before .before .before .if2 .taken) ∙ number-is k in
+    let zero = c .before .before .before .before .before .before .before .before .before .if2 .taken in
     let n = k .before .before .before .before .before .before .args .stations in
-    let low : n % 256 ≡ n = omega (arith, few _ _ _ (sym done)) in
+    let low : n % 256 ≡ n = omega (arith, few _ _ _ (sym (number-is k) ∙ zero)) in
     let image = c .before .before .before .before .before .before .encode .ensures ∙ ap encode (ap listed (c .before .before .before .before .before .before .before .fresh .ensures) ∙ listed-padded (fresh (n % 256)) ∙ ap fresh low) in
-    rw (image, c .before .before .put-reply .ensures) (opened _ n _ done)
+    rw (image, c .before .before .put-reply .ensures) (opened _ n _ (k .number .result) (number-is k) zero)
 
 put-reply-requires-2 : tie.Need-put-reply-requires-2
 put-reply-requires-2 c κs =
