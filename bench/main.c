@@ -108,7 +108,7 @@ int main(int argc, char **argv)
 {
     static const int lives[] = {0, 8, 16, 32};
     const int rounds = 60, calls = 2000;
-    double most = argc > 1 ? atof(argv[1]) : 1e18, worst = 0;
+    double most = argc > 1 ? atof(argv[1]) : 1e18, worst = 0, beside = 0;
     uint8_t image[IMAGE_SIZE];
     static const uint8_t reply[16];
 
@@ -146,9 +146,10 @@ int main(int argc, char **argv)
         }
         printf("%5d %12.1f %16.1f %8.2f %18.1f %8.2f\n", lives[k], library, value, library / value, pointer, library / pointer);
         worst = library / value > worst ? library / value : worst;
+        beside = library / pointer > beside ? library / pointer : beside;
     }
     if (worst > most)
         printf("above %.2f\n", most);
-    printf("worst ratio %.2f (to C by value)\n", worst);
+    printf("worst ratio %.2f to C by value, %.2f to C by pointer\n", worst, beside);
     return worst > most;
 }

@@ -1,5 +1,5 @@
 # Read by the scripts of tests/gate and by bench/run, which stand in the root of the repository.
-# Everything that they build is under target/, which `rt ci` removes.
+# Everything that they build is under target/, which `rt ci` removes. Scripts may run at the same time: a lock is held while rt builds.
 
 die() {
     echo "$*"
@@ -24,23 +24,31 @@ newer_than_sources() {
 # static_library NAME: target/staticlib/libNAME.a, proved.
 static_library() {
     local made=target/staticlib/lib$1.a
-    newer_than_sources "$made" && return
+    mkdir -p target
+    exec 8> target/rt.lock
+    flock 8
+    newer_than_sources "$made" && { flock -u 8; return; }
     need rt "the library is proved and built with it"
     echo "rt staticlib $1"
     mkdir -p target
     rt staticlib "$1" > "target/staticlib-$1.log" 2>&1 || { tail -n 20 "target/staticlib-$1.log"; die "rt staticlib $1 failed"; }
     [ -s "$made" ] || die "rt staticlib $1 made no $made"
+    flock -u 8
 }
 
 # program NAME: target/bin/NAME, proved.
 program() {
     local made=target/bin/$1
-    newer_than_sources "$made" && return
+    mkdir -p target
+    exec 8> target/rt.lock
+    flock 8
+    newer_than_sources "$made" && { flock -u 8; return; }
     need rt "the program is proved and built with it"
     echo "rt check $1"
     mkdir -p target
     rt check "$1" > "target/check-$1.log" 2>&1 || { tail -n 20 "target/check-$1.log"; die "rt check $1 failed"; }
     [ -x "$made" ] || die "rt check $1 made no $made"
+    flock -u 8
 }
 
 # The second simulator writes beside its sources when it is built, so a copy of it is built. `simulator` is the copy and `simulate` its program.
