@@ -102,7 +102,7 @@ pub fn services_of(image: &[u8]) -> [Service; 8]
     services
 }
 
-// What an image says. Neither costs read for maxima nor the clock read for the next ticket meets the promise.
+// What an image says. Neither the bytes of a number in another order nor the clock read for the next ticket meets the promise.
 pub fn decode(image: &[u8]) -> Pipeline
     requires { ⌜ Readable (now image) ⌝ }
     ensures { λ r. ⌜ r ≡ padded (says.decode (now (image .entry))) ⌝ }

@@ -124,8 +124,8 @@ fn put_zeros(out: &mut [u8], from: usize)
     }
 }
 
-// The whole image of a state. Neither the due tick written for the sum nor a byte of the old image left beyond the live
-// records meets the promise.
+// The whole image of a state. Neither the bytes of a number in another order nor a byte of the old image left beyond the
+// live records meets the promise.
 pub fn encode(image: &mut [u8], p: Pipeline)
     requires { ⌜ (length (now image) ≡ imageSize) × (p .live ≤ maxLive) ⌝ }
     ensures { λ _. ⌜ now (image .exit) ≡ says.encode (listed p) ⌝ }
