@@ -62,7 +62,7 @@ pub extern "C" fn dispatcher_open(image: &mut [u8], stations: u32, reply: &mut [
         return number;
     }
     if number == 0 {
-        image::encode::encode(image, fresh((stations % 256) as u8));
+        image_writer::encode(image, fresh((stations % 256) as u8));
         put_reply(reply, number, 0, 0, 0);
         return number;
     }

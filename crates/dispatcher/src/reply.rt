@@ -8,7 +8,7 @@ use image::layout::REPLY_MARGIN_AT;
 use image::layout::REPLY_NUMBER_AT;
 use image::layout::REPLY_TICK_AT;
 use image::layout::REPLY_TICKET_AT;
-use little_endian::write::put_u32;
+use little_endian_writer::put_u32;
 
 // All 16 bytes; the margin by its 32 bits.
 pub fn put_reply(reply: &mut [u8], number: u32, ticket: u32, tick: u32, margin: u32)

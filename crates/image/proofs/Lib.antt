@@ -1,3 +1,3 @@
--- What decode and encode share.
+-- The two forms of the state.
 pub mod Rows
 pub mod TwoForms

@@ -1,39 +1,18 @@
--- How long the rows of an image are; decode and encode in the words of the code's own state.
+-- The code's state as decode fills it, record by record.
 use mathlib.Core.Path.{_≡_, refl, ap}
-use mathlib.Core.List.{List, [], _∷_, _++_, map}
-use Prim.Native.Nat.{ℕ, _+_, _-_, _*_, _≤_, _<_}
-use native.Mathlib.Omega.{arith}
-use lib.ListN.{length, set, take, replicate, length-append, length-replicate}
-use lib.Seq.{length-take-le}
+use mathlib.Core.List.{List, _++_}
+use Prim.Native.Nat.{ℕ, _+_, _-_, _<_}
+use lib.ListN.{set, replicate}
 use Rattle.model.specs.Limits.{maxStations, maxLive}
-use Rattle.model.specs.Lists.{upward, concat}
-use Rattle.model.specs.Bytes.{byte, word, twoBytes, fourBytes}
-use Rattle.model.specs.Layout.{imageSize, mark, version, stationCountAt, clockAt, nextAt, recordSize, servicePart, recordPart}
-use Rattle.model.specs.Image.{liveCount, serviceOf, orderOf, serviceBytes, orderBytes, decode, encode}
-use Rattle.lists.specs.Stored.{Stored}
-use Rattle.lists.proofs.Stores.{stored-then, stored-all}
+use Rattle.model.specs.Lists.{upward}
+use Rattle.model.specs.Bytes.{byte, word}
+use Rattle.model.specs.Layout.{stationCountAt, clockAt, nextAt, servicePart, recordPart}
+use Rattle.model.specs.Image.{liveCount, serviceOf, orderOf, decode}
 use Rattle.lists.proofs.Fills.{length-upward, pad-next}
 use Rattle.image.specs.declared.Pipeline.{Pipeline}
-use Rattle.image.specs.Pipeline.{unused, padded, listed}
+use Rattle.image.specs.Pipeline.{unused, padded}
 use Rattle.model.specs.declared.Order.{Order}
 use Rattle.model.specs.declared.Service.{Service}
-
--- What is read past the end of an array of records: a record with no entries in its arrays.
-abbrev pub past : Order
-past = record { ticket = 0; accepted = 0; due = 0; sum = 0; station = 0; ranks = []; costs = []; maxima = [] }
-
-pub length-service : (e : Service) → length (serviceBytes e) ≡ 8
-unfolding serviceBytes
-length-service e = refl
-
-pub length-halves : (l : List ℕ) → length (concat (map twoBytes l)) ≡ 2 * length l
-unfolding concat
-length-halves [] = refl
-length-halves (x ∷ l) = omega (arith, length-halves l)
-
-pub length-order : (o : Order) → length (o .ranks) ≡ 8 → length (o .costs) ≡ 8 → length (o .maxima) ≡ 8 → length (orderBytes o) ≡ 64
-unfolding orderBytes
-length-order o r s t = simp length-append (omega (arith, length-halves (o .costs), length-halves (o .maxima)))
 
 -- The state with the first i records read.
 abbrev pub filled : List ℕ → ℕ → Pipeline
@@ -70,35 +49,3 @@ filled-next image i p v h e q =
 pub filled-all : (image : List ℕ) → filled image (liveCount image) ≡ padded (decode image)
 unfolding padded decode
 filled-all image = rw (length-upward 0 (liveCount image) (λ i. orderOf (recordPart image i)))
-
--- The records beyond the live ones.
-pub unused-count : (n live : ℕ) → n ≡ imageSize → n - (80 + 64 * live) ≡ 64 * (32 - live)
-unused-count n live h = omega arith
-
--- The four stores that make an image are the image of the state.
-module _ (p : Pipeline) (room : p .live ≤ maxLive) (long : length (p .orders) ≡ maxLive) where
-  abbrev header : List ℕ
-  header = mark ++ twoBytes version ++ (p .n ∷ p .live ∷ 0 ∷ []) ++ fourBytes (p .clock) ++ fourBytes (p .next)
-
-  abbrev services : List ℕ
-  services = concat (map serviceBytes (p .services))
-
-  abbrev orders : List ℕ
-  orders = concat (map orderBytes (take (p .live) (p .orders)))
-
-  abbrev zeros : List ℕ
-  zeros = replicate (recordSize * (maxLive - p .live)) 0
-
-  whole : encode (listed p) ≡ header ++ services ++ orders ++ zeros
-  unfolding encode listed
-  whole = rw (length-take-le (p .live) (p .orders) (omega arith))
-
-  pub encoded : {l a b c d : List ℕ} → length l ≡ imageSize → Stored l 0 header a → Stored a 16 services b → length services ≡ 64 → Stored b 80 orders c → length orders ≡ 64 * p .live → Stored c (80 + 64 * p .live) zeros d → d ≡ encode (listed p)
-  encoded h s1 s2 n2 s3 n3 s4 =
-      rw whole
-      (stored-all
-      (stored-then
-      (stored-then (stored-then s1 refl s2) (simp length-append (omega (arith, n2))) s3)
-      (simp length-append (omega (arith, n2, n3)))
-      s4)
-      (simp length-append (omega (arith, h, n2, n3, length-replicate {A = ℕ} (64 * (32 - p .live)) 0))))

@@ -29,10 +29,10 @@ use super::layout::STATION_COUNT_AT;
 use super::layout::SUM_AT;
 use super::layout::TICKET_AT;
 use super::wide;
-use little_endian::read::eight_bytes_at;
-use little_endian::read::eight_halves_at;
-use little_endian::read::u16_at;
-use little_endian::read::u32_at;
+use little_endian_reader::eight_bytes_at;
+use little_endian_reader::eight_halves_at;
+use little_endian_reader::u16_at;
+use little_endian_reader::u32_at;
 use model::Order;
 use model::Service;
 

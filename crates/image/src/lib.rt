@@ -1,7 +1,6 @@
-// The image and the pipeline's state: bytes to state by value, and back.
+// The image and the pipeline's state: bytes to state by value.
 pub mod layout; // layout.rt: the place of every field
 pub mod decode; // decode.rt: what an image says
-pub mod encode; // encode.rt: the image that says it
 
 ghost use mathlib.Core.Path.{_≡_};
 use model::Order;
@@ -17,7 +16,7 @@ pub struct Pipeline {
     pub orders: [Order; 32],
 }
 
-fn wide(x: u8) -> usize
+pub fn wide(x: u8) -> usize
     ensures { λ r. ⌜ r ≡ x ⌝ }
 {
     x as usize

@@ -10,7 +10,7 @@ ghost use Rattle.model.specs.Soundness.{ticketsInOrder};
 use image::layout::RECORD_SIZE;
 use image::layout::RECORDS_AT;
 use image::layout::TICKET_AT;
-use little_endian::read::u32_at;
+use little_endian_reader::u32_at;
 
 // "live tickets at least 1, rising, and below the next ticket where that is not 0", in one pass: a ticket above the one
 // before it, and the first above 0, is at least 1. Neither two live orders with one ticket let through, nor an image with

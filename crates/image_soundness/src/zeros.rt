@@ -17,8 +17,8 @@ use image::layout::SERVICE_SIZE;
 use image::layout::SERVICE_ZERO_AT;
 use image::layout::SERVICES_AT;
 use image::layout::STATION_ZERO_AT;
-use little_endian::read::u16_at;
-use little_endian::read::u32_at;
+use little_endian_reader::u16_at;
+use little_endian_reader::u32_at;
 
 // The zero bytes of the station entry at place i.
 fn service_zero(image: &[u8], i: usize) -> bool

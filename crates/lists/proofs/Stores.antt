@@ -5,8 +5,8 @@ use Prim.Native.Nat.{ℕ, suc, _+_, _≤_, _<_}
 use native.Mathlib.Nat.{add-zero}
 use native.Mathlib.Numerals.{add-one}
 use native.Mathlib.Omega.{arith}
-use lib.ListN.{length, getD, set, take, drop, replicate, length-append, length-replicate, drop-of-length-le, replicate-append-replicate}
-use lib.Seq.{sets, sets-eq, length-sets, take-at, take-suc, take-all}
+use lib.ListN.{length, getD, set, take, replicate, length-append, length-replicate, drop-of-length-le, replicate-append-replicate}
+use lib.Seq.{sets, sets-eq, length-sets, take-suc, take-all}
 use Rattle.lists.specs.Stored.{Stored, Put}
 
 sets-append : (l vs ws : List ℕ) (i : ℕ) → sets (sets l i vs) (i + length vs) ws ≡ sets l i (vs ++ ws)

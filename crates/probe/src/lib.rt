@@ -28,6 +28,6 @@ pub extern "C" fn probe_recode(image: &mut [u8]) -> u32
         return 4;
     }
     let p = image::decode::decode(image);
-    image::encode::encode(image, p);
+    image_writer::encode(image, p);
     0
 }

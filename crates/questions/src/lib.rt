@@ -17,7 +17,7 @@ use image::layout::MARK_W_AT;
 use image::layout::REPLY_SIZE;
 use image::layout::VERSION;
 use image::layout::VERSION_AT;
-use little_endian::read::u16_at;
+use little_endian_reader::u16_at;
 
 // The question that was answered "no", or that none was. `numberOf` has document 01's number for each.
 pub enum Answer {

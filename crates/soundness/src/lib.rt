@@ -20,7 +20,7 @@ use image_soundness::services::services_in_order;
 use image_soundness::tickets::tickets_in_order;
 use image_soundness::zeros::unused_records_zero;
 use image_soundness::zeros::zero_bytes_zero;
-use little_endian::read::u32_at;
+use little_endian_reader::u32_at;
 use model::limits::LAST_TICK;
 use model::limits::MAX_LIVE;
 use model::limits::MAX_STATIONS;

@@ -1,0 +1,2 @@
+-- What is written, row by row.
+pub mod Rows

@@ -1,2 +1,0 @@
--- What both directions share.
-pub mod Eight

@@ -1,0 +1,2 @@
+-- A row of eight.
+pub mod Eight
