@@ -21,34 +21,26 @@ newer_than_sources() {
     [ -e "$1" ] && [ -z "$(find crates crates.txt -newer "$1" -print -quit)" ]
 }
 
-# static_library NAME: target/staticlib/libNAME.a, proved.
-static_library() {
-    local made=target/staticlib/lib$1.a
+# made_by_rt FILE VERB NAME: FILE, which `rt VERB NAME` proves and writes, made anew if a source is newer.
+made_by_rt() {
     mkdir -p target
     exec 8> target/rt.lock
     flock 8
-    newer_than_sources "$made" && { flock -u 8; return; }
-    need rt "the library is proved and built with it"
-    echo "rt staticlib $1"
-    mkdir -p target
-    rt staticlib "$1" > "target/staticlib-$1.log" 2>&1 || { tail -n 20 "target/staticlib-$1.log"; die "rt staticlib $1 failed"; }
-    [ -s "$made" ] || die "rt staticlib $1 made no $made"
+    if ! newer_than_sources "$1"; then
+        need rt "it proves and builds $1"
+        echo "rt $2 $3"
+        rt "$2" "$3" > "target/rt-$2-$3.log" 2>&1 || { tail -n 20 "target/rt-$2-$3.log"; die "rt $2 $3 failed"; }
+        [ -s "$1" ] || die "rt $2 $3 made no $1"
+    fi
     flock -u 8
 }
 
-# program NAME: target/bin/NAME, proved.
+# static_library NAME: target/staticlib/libNAME.a, proved. program NAME: target/bin/NAME, proved.
+static_library() {
+    made_by_rt "target/staticlib/lib$1.a" staticlib "$1"
+}
 program() {
-    local made=target/bin/$1
-    mkdir -p target
-    exec 8> target/rt.lock
-    flock 8
-    newer_than_sources "$made" && { flock -u 8; return; }
-    need rt "the program is proved and built with it"
-    echo "rt check $1"
-    mkdir -p target
-    rt check "$1" > "target/check-$1.log" 2>&1 || { tail -n 20 "target/check-$1.log"; die "rt check $1 failed"; }
-    [ -x "$made" ] || die "rt check $1 made no $made"
-    flock -u 8
+    made_by_rt "target/bin/$1" check "$1"
 }
 
 # The second simulator writes beside its sources when it is built, so a copy of it is built. `simulator` is the copy and `simulate` its program.
