@@ -46,8 +46,7 @@ static void encode_order(uint8_t *restrict at, const struct order *restrict orde
     put4(at + 4, order->accepted);
     put4(at + 8, order->due);
     put4(at + 12, order->sum);
-    at[16] = order->station;
-    memset(at + 17, 0, 3);
+    put4(at + 16, order->station); /* its byte and three zero bytes */
     memcpy(at + 20, order->ranks, STATIONS);
     memcpy(at + 28, order->costs, sizeof order->costs);
     memcpy(at + 44, order->maxima, sizeof order->maxima);
@@ -85,16 +84,4 @@ void encode(uint8_t image[restrict IMAGE_SIZE], const struct cabinet *restrict c
     for (int k = 0; k < cabinet->live; k++)
         encode_order(image + 80 + 64 * k, &cabinet->orders[k]);
     memset(image + 80 + 64 * cabinet->live, 0, (size_t)(ORDERS - cabinet->live) * 64);
-}
-
-struct cabinet decoded(const uint8_t image[IMAGE_SIZE])
-{
-    struct cabinet cabinet;
-    decode(&cabinet, image);
-    return cabinet;
-}
-
-void encode_value(uint8_t image[IMAGE_SIZE], struct cabinet cabinet)
-{
-    encode(image, &cabinet);
 }

@@ -34,8 +34,4 @@ void decode(struct cabinet *cabinet, const uint8_t image[IMAGE_SIZE]);
 /* Writes all bytes of the image. */
 void encode(uint8_t image[IMAGE_SIZE], const struct cabinet *cabinet);
 
-/* The same with the cabinet by value, as the library carries it. */
-struct cabinet decoded(const uint8_t image[IMAGE_SIZE]);
-void encode_value(uint8_t image[IMAGE_SIZE], struct cabinet cabinet);
-
 #endif

@@ -1,14 +1,15 @@
 // What an image says, as a state by value. Whether the image is sound is asked elsewhere: here its records need only be
 // there to be read.
 ghost use mathlib.Core.Path.{_≡_};
-ghost use Prim.Native.Nat.{_<_};
-ghost use lib.ListN.{length};
+ghost use mathlib.Core.List.{_++_};
+ghost use Prim.Native.Nat.{_-_, _<_, _≤_};
+ghost use lib.ListN.{length, replicate};
 ghost use Rattle.model.specs.Lists.{upward};
 ghost use Rattle.model.specs.Limits.{maxStations, maxLive};
 ghost use Rattle.model.specs.Layout.{imageSize, serviceSize, recordSize, servicePart, recordPart};
 ghost use Rattle.model.specs.Image.{serviceOf, orderOf};
 ghost use Rattle.model.specs.Image as says;
-ghost use Rattle.image.specs.Pipeline.{padded, Readable};
+ghost use Rattle.image.specs.Pipeline.{unused, padded, Readable};
 use super::Pipeline;
 use super::layout::ACCEPTED_AT;
 use super::layout::CLOCK_AT;
@@ -102,34 +103,43 @@ pub fn services_of(image: &[u8]) -> [Service; 8]
     services
 }
 
+// The first `live` records, and unused ones up to 32. The array is a local of its own, as the one that `image_writer` reads
+// is: then the compiler keeps one array of records between the two, where a part of a larger struct would be copied.
+pub fn orders_of(image: &[u8], live: usize) -> [Order; 32]
+    requires { ⌜ (length (now image) ≡ imageSize) × (live ≤ maxLive) ⌝ }
+    ensures { λ r. ⌜ r ≡ upward 0 live (λ i. orderOf (recordPart (now (image .entry)) i)) ++ replicate (maxLive - live) unused ⌝ }
+{
+    let mut orders = [Order {
+        ticket: 0,
+        accepted: 0,
+        due: 0,
+        sum: 0,
+        station: 0,
+        ranks: [0; 8],
+        costs: [0; 8],
+        maxima: [0; 8],
+    }; 32];
+    let mut i: usize = 0;
+    while i < live {
+        orders[i] = order_at(image, i);
+        i += 1;
+    }
+    orders
+}
+
 // What an image says. Neither the bytes of a number in another order nor the clock read for the next ticket meets the promise.
 pub fn decode(image: &[u8]) -> Pipeline
     requires { ⌜ Readable (now image) ⌝ }
     ensures { λ r. ⌜ r ≡ padded (says.decode (now (image .entry))) ⌝ }
 {
     let services = services_of(image);
-    let live = wide(image[LIVE_COUNT_AT]);
-    let mut p = Pipeline {
+    let orders = orders_of(image, wide(image[LIVE_COUNT_AT]));
+    Pipeline {
         n: image[STATION_COUNT_AT],
         live: image[LIVE_COUNT_AT],
         clock: u32_at(image, CLOCK_AT),
         next: u32_at(image, NEXT_AT),
         services: services,
-        orders: [Order {
-            ticket: 0,
-            accepted: 0,
-            due: 0,
-            sum: 0,
-            station: 0,
-            ranks: [0; 8],
-            costs: [0; 8],
-            maxima: [0; 8],
-        }; 32],
-    };
-    let mut i: usize = 0;
-    while i < live {
-        p.orders[i] = order_at(image, i);
-        i += 1;
+        orders: orders,
     }
-    p
 }

@@ -1,7 +1,7 @@
 -- How long the rows of an image are, and that the stores that make an image are the image of the state.
 use mathlib.Core.Path.{_≡_, refl}
 use mathlib.Core.List.{List, [], _∷_, _++_, map}
-use Prim.Native.Nat.{ℕ, _+_, _-_, _*_, _≤_}
+use Prim.Native.Nat.{ℕ, _+_, _-_, _*_, _/_, _%_, _≤_}
 use native.Mathlib.Omega.{arith}
 use lib.ListN.{length, take, replicate, length-append, length-replicate}
 use lib.Seq.{length-take-le}
@@ -33,6 +33,15 @@ length-halves (x ∷ l) = omega (arith, length-halves l)
 pub length-order : (o : Order) → length (o .ranks) ≡ 8 → length (o .costs) ≡ 8 → length (o .maxima) ≡ 8 → length (orderBytes o) ≡ 64
 unfolding orderBytes
 length-order o r s t = simp length-append (omega (arith, length-halves (o .costs), length-halves (o .maxima)))
+
+-- A number of one byte, written as four.
+pub byte-as-four : (v : ℕ) → fourBytes (v % 256) ≡ v % 256 ∷ 0 ∷ 0 ∷ 0 ∷ []
+byte-as-four v =
+    let a : v % 256 % 256 ≡ v % 256 = omega arith in
+    let b : v % 256 / 256 % 256 ≡ 0 = omega arith in
+    let c : v % 256 / 65536 % 256 ≡ 0 = omega arith in
+    let d : v % 256 / 16777216 % 256 ≡ 0 = omega arith in
+    rw (a, b, c, d)
 
 -- The records beyond the live ones.
 pub unused-count : (n live : ℕ) → n ≡ imageSize → n - (80 + 64 * live) ≡ 64 * (32 - live)

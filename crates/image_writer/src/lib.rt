@@ -84,7 +84,8 @@ fn put_order_head(image: &mut [u8], at: usize, o: Order)
     put_u32(image, at + ACCEPTED_AT, o.accepted);
     put_u32(image, at + DUE_AT, o.due);
     put_u32(image, at + SUM_AT, o.sum);
-    put_four(image, at + STATION_AT, (o.station % 256) as u8, 0, 0, 0);
+    // Its byte and the three zero bytes after it, in one store.
+    put_u32(image, at + STATION_AT, o.station % 256);
 }
 
 fn put_order(image: &mut [u8], at: usize, o: Order)

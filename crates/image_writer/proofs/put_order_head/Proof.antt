@@ -2,6 +2,7 @@
 use native.Mathlib.Omega.{arith}
 use borrow.Author.Needs.{needs}
 use Rattle.lists.proofs.Stores.{stored-then}
+use Rattle.image_writer.proofs.Rows.{byte-as-four}
 use Rattle.image_writer.proofs.put_order_head.Statement.{statement}
 use Rattle.image_writer.proofs.put_order_head.Tie as tie
 
@@ -26,14 +27,11 @@ add-put-u32-3 c = search needs
 put-u32-requires-4 : tie.Need-put-u32-requires-4
 put-u32-requires-4 c κs = search needs
 
-add-put-four : tie.Need-add-put-four
-add-put-four c = search needs
+add-put-u32-4 : tie.Need-add-put-u32-4
+add-put-u32-4 c = search needs
 
-cast-put-four : tie.Need-cast-put-four
-cast-put-four c = search needs
-
-put-four-requires : tie.Need-put-four-requires
-put-four-requires c κs = search needs
+put-u32-requires-5 : tie.Need-put-u32-requires-5
+put-u32-requires-5 c κs = search needs
 
 same-length : tie.Need-same-length
 same-length c = search needs
@@ -45,7 +43,7 @@ returns c =
     let k3 = k4 .before .before .before .before in
     let k2 = k3 .before .before .before .before in
     let k1 = k2 .before .before .before .before in
-    stored-then (k1 .put-u32 .ensures) (omega arith) (stored-then (k2 .put-u322 .ensures) (omega arith) (stored-then (k3 .put-u323 .ensures) (omega arith) (stored-then (k4 .put-u324 .ensures) (omega arith) (k5 .put-four .ensures))))
+    stored-then (k1 .put-u32 .ensures) (omega arith) (stored-then (k2 .put-u322 .ensures) (omega arith) (stored-then (k3 .put-u323 .ensures) (omega arith) (stored-then (k4 .put-u324 .ensures) (omega arith) (rw (byte-as-four _) at (k5 .put-u325 .ensures)))))
 
 pub put-order-head-spec : {M : Type 1} → statement M
 put-order-head-spec =
@@ -58,8 +56,7 @@ put-order-head-spec =
     put-u32-requires-3
     add-put-u32-3
     put-u32-requires-4
-    add-put-four
-    cast-put-four
-    put-four-requires
+    add-put-u32-4
+    put-u32-requires-5
     same-length
     returns)
