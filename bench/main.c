@@ -3,8 +3,10 @@
  * The library carries the state by value (document 01: "The core carries its state by value"). The C lends its struct by a pointer, which is the fastest way
  * to write it in C: carried by value, the struct would be copied.
  *
- * First both must give the same bytes, on sound images and on random bytes. Then both are timed in one run: rounds of the one and of the other in turn, and
- * the best round of each counts. A machine that is busy or changes its speed does the same to both.
+ * First both must give the same bytes, on sound images and on random bytes. Then both are timed in one run: rounds of the one and of the other in turn, and the
+ * best round of each counts. A machine that is busy or changes its speed does the same to both. The time of either also depends, by up to a fifth, on where the
+ * stack lies beside the images, modulo 4,096 bytes, and that differs from run to run. So both are timed with the stack at 64 depths, spread over 4,096 bytes,
+ * and the mean counts.
  *
  * probe_recode also tests the length and the live count at its entry. These two comparisons cost next to nothing beside 2,128 bytes read and written, and
  * are not taken off. */
@@ -95,10 +97,18 @@ static double round_of(recode *volatile call, const uint8_t *image, int calls)
     return (now() - began) / calls;
 }
 
+/* The same with the stack so many bytes further down. */
+static double round_at(size_t depth, recode *call, const uint8_t *image, int calls)
+{
+    volatile uint8_t above[depth + 1];
+    above[depth] = 0;
+    return round_of(call, image, calls) + above[depth];
+}
+
 int main(int argc, char **argv)
 {
     static const int lives[] = {0, 8, 16, 32};
-    const int rounds = 1000, calls = 1000;
+    const int depths = 64, rounds = 60, calls = 250;
     double most = argc > 1 ? atof(argv[1]) : 1e18, worst = 0;
     uint8_t image[IMAGE_SIZE];
     static const uint8_t reply[16];
@@ -122,16 +132,22 @@ int main(int argc, char **argv)
     }
     printf("same bytes on sound images with 0, 8, 16 and 32 live orders and on 200 images of random bytes (seed %lu)\n", (unsigned long)seed);
 
-    printf("decode and encode, best of %d rounds of %d calls each\n", rounds, calls);
+    printf("decode and encode, best of %d rounds of %d calls each, mean over %d depths of the stack\n", rounds, calls, depths);
     printf("%5s %12s %12s %8s\n", "live", "library ns", "C ns", "ratio");
     for (int k = 0; k < 4; k++) {
-        double library = 1e18, c = 1e18;
+        double library = 0, c = 0;
         sound_image(image, lives[k]);
-        for (int r = 0; r < rounds; r++) {
-            double a = round_of(probe_recode, image, calls);
-            double b = round_of(plain, image, calls);
-            library = a < library ? a : library;
-            c = b < c ? b : c;
+        for (int d = 0; d < depths; d++) {
+            size_t depth = (size_t)(4096 / depths * d);
+            double least_library = 1e18, least_c = 1e18;
+            for (int r = 0; r < rounds; r++) {
+                double a = round_at(depth, probe_recode, image, calls);
+                double b = round_at(depth, plain, image, calls);
+                least_library = a < least_library ? a : least_library;
+                least_c = b < least_c ? b : least_c;
+            }
+            library += least_library / depths;
+            c += least_c / depths;
         }
         printf("%5d %12.1f %12.1f %8.2f\n", lives[k], library, c, library / c);
         worst = library / c > worst ? library / c : worst;

@@ -9,7 +9,6 @@ use super::reply::put_reply;
 use image::Pipeline;
 use image::layout::IMAGE_SIZE;
 use image::layout::REPLY_SIZE;
-use model::Order;
 use model::Service;
 use model::limits::MAX_STATIONS;
 use questions::Answer;
@@ -38,16 +37,7 @@ fn fresh(n: u8) -> Pipeline
         clock: 0,
         next: 1,
         services: [Service { ticket: 0, left: 0 }; 8],
-        orders: [Order {
-            ticket: 0,
-            accepted: 0,
-            due: 0,
-            sum: 0,
-            station: 0,
-            ranks: [0; 8],
-            costs: [0; 8],
-            maxima: [0; 8],
-        }; 32],
+        orders: image::unused_orders(),
     }
 }
 

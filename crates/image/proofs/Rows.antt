@@ -3,16 +3,15 @@ use mathlib.Core.Path.{_≡_}
 use mathlib.Core.List.{List, _++_}
 use Prim.Native.Nat.{ℕ, _-_}
 use lib.ListN.{replicate}
-use Rattle.model.specs.Limits.{maxStations, maxLive}
-use Rattle.model.specs.Lists.{upward}
+use Rattle.model.specs.Limits.{maxLive}
 use Rattle.model.specs.Bytes.{byte, word}
-use Rattle.model.specs.Layout.{stationCountAt, clockAt, nextAt, servicePart, recordPart}
-use Rattle.model.specs.Image.{liveCount, serviceOf, orderOf, decode}
+use Rattle.model.specs.Layout.{stationCountAt, clockAt, nextAt, recordPart}
+use Rattle.model.specs.Image.{liveCount, orderOf, servicesOf, ordersOf, decode}
 use Rattle.lists.proofs.Fills.{length-upward}
 use Rattle.image.specs.Pipeline.{unused, padded}
 use Rattle.model.specs.declared.Order.{Order}
 use Rattle.model.specs.declared.Service.{Service}
 
-pub parts-padded : (image : List ℕ) (live clock next : ℕ) (services : List Service) (orders : List Order) → live ≡ liveCount image → clock ≡ word image clockAt → next ≡ word image nextAt → services ≡ upward 0 maxStations (λ k. serviceOf (servicePart image k)) → orders ≡ upward 0 live (λ k. orderOf (recordPart image k)) ++ replicate (maxLive - live) unused → record { n = byte image stationCountAt; live = liveCount image; clock = clock; next = next; services = services; orders = orders } ≡ padded (decode image)
+pub parts-padded : (image : List ℕ) (live clock next : ℕ) (services : List Service) (orders : List Order) → live ≡ liveCount image → clock ≡ word image clockAt → next ≡ word image nextAt → services ≡ servicesOf image → orders ≡ ordersOf image live ++ replicate (maxLive - live) unused → record { n = byte image stationCountAt; live = liveCount image; clock = clock; next = next; services = services; orders = orders } ≡ padded (decode image)
 unfolding padded decode
 parts-padded image live clock next services orders l c n s o = rw (c, n, s, o, l, length-upward 0 (liveCount image) (λ i. orderOf (recordPart image i)))

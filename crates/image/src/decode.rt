@@ -4,10 +4,9 @@ ghost use mathlib.Core.Path.{_≡_};
 ghost use mathlib.Core.List.{_++_};
 ghost use Prim.Native.Nat.{_-_, _<_, _≤_};
 ghost use lib.ListN.{length, replicate};
-ghost use Rattle.model.specs.Lists.{upward};
 ghost use Rattle.model.specs.Limits.{maxStations, maxLive};
 ghost use Rattle.model.specs.Layout.{imageSize, serviceSize, recordSize, servicePart, recordPart};
-ghost use Rattle.model.specs.Image.{serviceOf, orderOf};
+ghost use Rattle.model.specs.Image.{serviceOf, orderOf, servicesOf, ordersOf};
 ghost use Rattle.model.specs.Image as says;
 ghost use Rattle.image.specs.Pipeline.{unused, padded, Readable};
 use super::Pipeline;
@@ -29,6 +28,7 @@ use super::layout::STATION_AT;
 use super::layout::STATION_COUNT_AT;
 use super::layout::SUM_AT;
 use super::layout::TICKET_AT;
+use super::unused_orders;
 use super::wide;
 use little_endian_reader::eight_bytes_at;
 use little_endian_reader::eight_halves_at;
@@ -92,7 +92,7 @@ fn wide32(x: u8) -> u32
 
 pub fn services_of(image: &[u8]) -> [Service; 8]
     requires { ⌜ length (now image) ≡ imageSize ⌝ }
-    ensures { λ r. ⌜ r ≡ upward 0 maxStations (λ i. serviceOf (servicePart (now (image .entry)) i)) ⌝ }
+    ensures { λ r. ⌜ r ≡ servicesOf (now (image .entry)) ⌝ }
 {
     let mut services = [Service { ticket: 0, left: 0 }; 8];
     let mut i: usize = 0;
@@ -107,18 +107,9 @@ pub fn services_of(image: &[u8]) -> [Service; 8]
 // is: then the compiler keeps one array of records between the two, where a part of a larger struct would be copied.
 pub fn orders_of(image: &[u8], live: usize) -> [Order; 32]
     requires { ⌜ (length (now image) ≡ imageSize) × (live ≤ maxLive) ⌝ }
-    ensures { λ r. ⌜ r ≡ upward 0 live (λ i. orderOf (recordPart (now (image .entry)) i)) ++ replicate (maxLive - live) unused ⌝ }
+    ensures { λ r. ⌜ r ≡ ordersOf (now (image .entry)) live ++ replicate (maxLive - live) unused ⌝ }
 {
-    let mut orders = [Order {
-        ticket: 0,
-        accepted: 0,
-        due: 0,
-        sum: 0,
-        station: 0,
-        ranks: [0; 8],
-        costs: [0; 8],
-        maxima: [0; 8],
-    }; 32];
+    let mut orders = unused_orders();
     let mut i: usize = 0;
     while i < live {
         orders[i] = order_at(image, i);

@@ -3,6 +3,9 @@ pub mod layout; // layout.rt: the place of every field
 pub mod decode; // decode.rt: what an image says
 
 ghost use mathlib.Core.Path.{_≡_};
+ghost use lib.ListN.{replicate};
+ghost use Rattle.model.specs.Limits.{maxLive};
+ghost use Rattle.image.specs.Pipeline.{unused};
 use model::Order;
 use model::Service;
 
@@ -14,6 +17,22 @@ pub struct Pipeline {
     pub next: u32,
     pub services: [Service; 8],
     pub orders: [Order; 32],
+}
+
+// Records as they are where no order is.
+pub fn unused_orders() -> [Order; 32]
+    ensures { λ r. ⌜ r ≡ replicate maxLive unused ⌝ }
+{
+    [Order {
+        ticket: 0,
+        accepted: 0,
+        due: 0,
+        sum: 0,
+        station: 0,
+        ranks: [0; 8],
+        costs: [0; 8],
+        maxima: [0; 8],
+    }; 32]
 }
 
 pub fn wide(x: u8) -> usize

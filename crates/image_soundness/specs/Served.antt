@@ -1,12 +1,9 @@
 -- Which stations' entries a list of orders serves.
 use mathlib.Core.Bool.{Bool, false, _||_}
 use mathlib.Core.List.{List}
-use Prim.Native.Nat.{ℕ}
 use Rattle.model.specs.declared.Order.{Order}
 use Rattle.model.specs.declared.Service.{Service}
-use Rattle.model.specs.Lists.{at, any, numbered, upward}
-use Rattle.model.specs.Layout.{recordPart}
-use Rattle.model.specs.Image.{orderOf}
+use Rattle.model.specs.Lists.{at, any, numbered}
 use Rattle.model.specs.Soundness.{serves}
 
 -- Of each station, whether an order of the list serves its entry.
@@ -16,7 +13,3 @@ servedBy services orders = numbered (λ k e. any (serves k e) orders) 1 services
 -- The same marks with those of one order more.
 unfoldable pub markedBy : List Service → Order → List Bool → List Bool
 markedBy services o marks = numbered (λ k e. at false marks k || serves k e o) 1 services
-
--- The first records of an image.
-abbrev pub ordersOf : List ℕ → ℕ → List Order
-ordersOf image live = upward 0 live (λ i. orderOf (recordPart image i))

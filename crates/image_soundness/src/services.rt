@@ -4,12 +4,12 @@ ghost use mathlib.Core.Path.{_≡_};
 ghost use Prim.Native.Nat.{_≤_};
 ghost use lib.ListN.{length, drop};
 ghost use Rattle.model.specs.Limits.{maxStations, maxLive};
-ghost use Rattle.model.specs.Lists.{all, upward};
+ghost use Rattle.model.specs.Lists.{all};
 ghost use Rattle.model.specs.Bytes.{byte};
-ghost use Rattle.model.specs.Layout.{imageSize, stationCountAt, servicePart};
-ghost use Rattle.model.specs.Image.{liveCount, serviceOf, decode};
+ghost use Rattle.model.specs.Layout.{imageSize, stationCountAt};
+ghost use Rattle.model.specs.Image.{liveCount, servicesOf, ordersOf, decode};
 ghost use Rattle.model.specs.Soundness.{isIdle, servicesInOrder};
-ghost use Rattle.image_soundness.specs.Served.{servedBy, markedBy, ordersOf};
+ghost use Rattle.image_soundness.specs.Served.{servedBy, markedBy};
 use image::decode::order_at;
 use model::Order;
 use model::Service;
@@ -69,7 +69,7 @@ fn served_by(image: &[u8], live: usize, services: [Service; 8]) -> [bool; 8]
 // entry with the ticket of an order at another station let through, nor one refused for ticks to go equal to the cost,
 // meets the promise.
 pub fn services_in_order(image: &[u8], n: u32, live: usize, services: [Service; 8]) -> bool
-    requires { ⌜ (length (now image) ≡ imageSize) × (live ≡ liveCount (now image)) × (live ≤ maxLive) × (n ≡ byte (now image) stationCountAt) × (services ≡ upward 0 maxStations (λ i. serviceOf (servicePart (now image) i))) ⌝ }
+    requires { ⌜ (length (now image) ≡ imageSize) × (live ≡ liveCount (now image)) × (live ≤ maxLive) × (n ≡ byte (now image) stationCountAt) × (services ≡ servicesOf (now image)) ⌝ }
     ensures { λ r. ⌜ r ≡ servicesInOrder (decode (now (image .entry))) ⌝ }
 {
     let served = served_by(image, live, services);

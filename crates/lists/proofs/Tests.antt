@@ -93,11 +93,7 @@ module _ {A : Type 0} (test : A → Bool) where
       let high : n ≤ k = ltb-false k n e in
       rw (add-one, take-suc l k d h, drop-append-le n (take k l) (getD l k d ∷ []) (omega arith)) (all-more (drop n (take k l)) (getD l k d)))
 
-  -- Of a list by its entries: none yet, and one more.
-  pub all-none : (f : ℕ → A) → true ≡ all test (upward 0 0 f)
-  unfolding all upward
-  all-none f = refl
-
+  -- Of a list by its entries: one more.
   pub all-upward : (n : ℕ) (f : ℕ → A) → all test (upward 0 (n + 1) f) ≡ (all test (upward 0 n f) && test (f n))
   all-upward n f = rw (upward-more n f) (all-more (upward 0 n f) (f n))
 

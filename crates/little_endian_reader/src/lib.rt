@@ -1,6 +1,6 @@
-// Numbers in a byte buffer, the low byte first (document 01: "stored numbers little-endian"): a reader for each width and
-// for a row of eight. Offsets are the business of those who call. Each promise says which bytes make the number: neither the high byte first nor the bytes of a
-// neighbouring place give the same.
+// Numbers in a byte buffer, the low byte first (document 01: "stored numbers little-endian"): a reader for each width
+// and for a row of eight. Offsets are the business of those who call. Each promise says which bytes make the number:
+// neither the high byte first nor the bytes of a neighbouring place give the same.
 ghost use mathlib.Core.Path.{_≡_};
 ghost use Prim.Native.Nat.{_+_, _≤_, _<_};
 ghost use lib.ListN.{length};

@@ -1,6 +1,6 @@
-// Numbers into a byte buffer, the low byte first (document 01: "stored numbers little-endian"): a writer for each width and
-// for a row of eight. Offsets are the business of those who call. Each promise gives the whole buffer: neither another byte order nor a store outside the number's
-// place meets it.
+// Numbers into a byte buffer, the low byte first (document 01: "stored numbers little-endian"): a writer for each width
+// and for a row of eight. Offsets are the business of those who call. Each promise gives the whole buffer: neither
+// another byte order nor a store outside the number's place meets it.
 ghost use mathlib.Core.List.{[], _∷_, map};
 ghost use Prim.Native.Nat.{_+_, _≤_};
 ghost use lib.ListN.{length};

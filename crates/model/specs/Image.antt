@@ -47,15 +47,22 @@ orderBytes o =
     ++ o .ranks ++ concat (map twoBytes (o .costs)) ++ concat (map twoBytes (o .maxima))
     ++ (0 ∷ 0 ∷ 0 ∷ 0 ∷ [])
 
--- What an image says. "32 records .., live ones first in ticket order, the rest all zero"
+-- The "eight station entries", and the first so many of the "32 records".
+abbrev pub servicesOf : List ℕ → List Service
+servicesOf image = upward 0 maxStations (λ i. serviceOf (servicePart image i))
+
+abbrev pub ordersOf : List ℕ → ℕ → List Order
+ordersOf image count = upward 0 count (λ i. orderOf (recordPart image i))
+
+-- What an image says. "live ones first in ticket order, the rest all zero"
 unfoldable pub decode : List ℕ → State
 decode image =
     record {
       n = byte image stationCountAt;
       clock = word image clockAt;
       next = word image nextAt;
-      services = upward 0 maxStations (λ i. serviceOf (servicePart image i));
-      orders = upward 0 (liveCount image) (λ i. orderOf (recordPart image i));
+      services = servicesOf image;
+      orders = ordersOf image (liveCount image);
     }
 
 -- The image that says it.

@@ -6,11 +6,11 @@ use Prim.Native.Nat.{ℕ}
 use lib.ListN.{drop}
 use lib.Dec.{leb}
 use Rattle.model.specs.declared.Service.{Service}
-use Rattle.model.specs.Limits.{maxStations, lastTick}
-use Rattle.model.specs.Lists.{all, upward}
+use Rattle.model.specs.Limits.{lastTick}
+use Rattle.model.specs.Lists.{all}
 use Rattle.model.specs.Bytes.{byte, word}
-use Rattle.model.specs.Layout.{stationCountAt, clockAt, servicePart, recordPart}
-use Rattle.model.specs.Image.{liveCount, serviceOf, orderOf, decode}
+use Rattle.model.specs.Layout.{stationCountAt, clockAt}
+use Rattle.model.specs.Image.{liveCount, servicesOf, ordersOf, decode}
 use Rattle.model.specs.Soundness.{clockInRange, zeroBytesZero, unusedRecordsZero, ticketsInOrder, acceptedByNow, isIdle, fieldsBeyondZero, servicesInOrder}
 use Rattle.record_soundness.specs.declared.Tests.{Tests}
 use Rattle.soundness.specs.declared.Clauses.{Clauses}
@@ -36,11 +36,11 @@ joined clock tests zero unused tickets idle served =
     }
 
 module _ (image : List ℕ) where
-  named : joined (word image clockAt) (testsOfAll (byte image stationCountAt) (word image clockAt) (upward 0 (liveCount image) (λ i. orderOf (recordPart image i))))
+  named : joined (word image clockAt) (testsOfAll (byte image stationCountAt) (word image clockAt) (ordersOf image (liveCount image)))
       (zeroBytesZero image)
       (unusedRecordsZero image)
       (ticketsInOrder (decode image))
-      (all isIdle (drop (byte image stationCountAt) (upward 0 maxStations (λ i. serviceOf (servicePart image i)))))
+      (all isIdle (drop (byte image stationCountAt) (servicesOf image)))
       (servicesInOrder (decode image)) ≡ laterClauses image
   unfolding laterClauses decode clockInRange acceptedByNow fieldsBeyondZero testsOfAll
   named = refl
@@ -49,8 +49,8 @@ module _ (image : List ℕ) where
       → n ≡ byte image stationCountAt
       → live ≡ liveCount image
       → clock ≡ word image clockAt
-      → tests ≡ testsOfAll n clock (upward 0 live (λ i. orderOf (recordPart image i)))
-      → services ≡ upward 0 maxStations (λ i. serviceOf (servicePart image i))
+      → tests ≡ testsOfAll n clock (ordersOf image live)
+      → services ≡ servicesOf image
       → zero ≡ zeroBytesZero image
       → unused ≡ unusedRecordsZero image
       → tickets ≡ ticketsInOrder (decode image)

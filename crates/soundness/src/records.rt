@@ -3,9 +3,8 @@ ghost use mathlib.Core.Path.{_≡_};
 ghost use Prim.Native.Nat.{_≤_};
 ghost use lib.ListN.{length};
 ghost use Rattle.model.specs.Limits.{maxLive};
-ghost use Rattle.model.specs.Lists.{upward};
-ghost use Rattle.model.specs.Layout.{imageSize, recordPart};
-ghost use Rattle.model.specs.Image.{orderOf};
+ghost use Rattle.model.specs.Layout.{imageSize};
+ghost use Rattle.model.specs.Image.{ordersOf};
 ghost use Rattle.soundness.specs.Records.{testsOfAll};
 use image::decode::order_at;
 use record_soundness::Tests;
@@ -15,7 +14,7 @@ use record_soundness::tested;
 // Neither a clause that the last order alone breaks let through, nor one held against the wrong clause, meets the promise.
 pub fn all_tested(image: &[u8], n: u32, live: usize, clock: u32) -> Tests
     requires { ⌜ (length (now image) ≡ imageSize) × (live ≤ maxLive) ⌝ }
-    ensures { λ r. ⌜ r ≡ testsOfAll n clock (upward 0 live (λ i. orderOf (recordPart (now (image .entry)) i))) ⌝ }
+    ensures { λ r. ⌜ r ≡ testsOfAll n clock (ordersOf (now (image .entry)) live) ⌝ }
 {
     let mut tests = Tests {
         accepted: true,

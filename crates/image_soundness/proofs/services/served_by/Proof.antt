@@ -6,9 +6,9 @@ use Prim.Native.Nat.{_-_, _≤_}
 use lib.ListN.{length}
 use Rattle.model.specs.Lists.{upward}
 use Rattle.model.specs.Layout.{recordPart}
-use Rattle.model.specs.Image.{orderOf}
+use Rattle.model.specs.Image.{orderOf, ordersOf}
 use Rattle.lists.proofs.Fills.{length-mapped, upward-more}
-use Rattle.image_soundness.specs.Served.{servedBy, ordersOf}
+use Rattle.image_soundness.specs.Served.{servedBy}
 use Rattle.image_soundness.proofs.Marks.{served-none, length-served, served-more}
 use Rattle.image_soundness.proofs.services.served_by.Statement.{statement}
 use Rattle.image_soundness.proofs.services.served_by.Tie as tie

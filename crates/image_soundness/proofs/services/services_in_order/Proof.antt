@@ -11,10 +11,9 @@ use Rattle.model.specs.declared.Order.{Order}
 use Rattle.model.specs.declared.Service.{Service}
 use Rattle.model.specs.Lists.{any, allStations}
 use Rattle.model.specs.State.{idle}
-use Rattle.model.specs.Image.{decode}
+use Rattle.model.specs.Image.{ordersOf, decode}
 use Rattle.model.specs.Soundness.{isIdle, serves, servicesInOrder}
 use Rattle.lists.proofs.Fills.{length-mapped}
-use Rattle.image_soundness.specs.Served.{ordersOf}
 use Rattle.lists.proofs.Tests.{stations-none, stations-more}
 use Rattle.image_soundness.proofs.Marks.{served-at}
 use Rattle.image_soundness.proofs.services.services_in_order.Statement.{statement}

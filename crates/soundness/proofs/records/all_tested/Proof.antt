@@ -3,16 +3,14 @@ use mathlib.Core.Path.{_≡_, _∙_}
 use Prim.Native.Nat.{_≤_, _-_}
 use native.Mathlib.Omega.{arith}
 use borrow.Author.Needs.{needs}
-use Rattle.model.specs.Lists.{upward}
-use Rattle.model.specs.Layout.{recordPart}
-use Rattle.model.specs.Image.{orderOf}
+use Rattle.model.specs.Image.{ordersOf}
 use Rattle.soundness.specs.Records.{testsOfAll}
 use Rattle.soundness.proofs.RecordLaws.{tested-none, tested-more}
 use Rattle.soundness.proofs.records.all_tested.Statement.{statement}
 use Rattle.soundness.proofs.records.all_tested.Tie as tie
 
 abbrev Inv-loop : tie.InvT-loop
-Inv-loop image n live clock tests₀ i₀ tests i = (i ≤ live) × (tests ≡ testsOfAll n clock (upward 0 i (λ k. orderOf (recordPart image k))))
+Inv-loop image n live clock tests₀ i₀ tests i = (i ≤ live) × (tests ≡ testsOfAll n clock (ordersOf image i))
 
 abbrev μ-loop : tie.MeasureT-loop
 μ-loop image n live clock tests₀ i₀ tests i = live - i
