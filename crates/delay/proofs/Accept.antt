@@ -7,7 +7,8 @@ use native.Mathlib.Omega.{arith}
 use Rattle.model.specs.declared.Order.{Order}
 use Rattle.model.specs.Lists.{at, total}
 use Rattle.model.specs.State.{State}
-use Rattle.model.specs.Admission.{Block, arrival, joinedBy, joinedLive}
+use Rattle.model.specs.declared.Block.{Block}
+use Rattle.model.specs.Admission.{arrival, joinedBy, joinedLive}
 use Rattle.schedule.specs.Valid.{_∈_, serving, cost, Valid}
 use Rattle.schedule.specs.Accept.{Acceptable, NextAfter, acceptNext}
 use Rattle.schedule.proofs.Accept.{Origin, old, new, origin, arrival-unserved, valid-accept}

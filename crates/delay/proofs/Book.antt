@@ -14,7 +14,8 @@ use Rattle.model.specs.declared.Service.{Service}
 use Rattle.model.specs.Lists.{total, only}
 use Rattle.model.specs.Tick.{view, stationAfter, vacate, moveTo, starts, leave}
 use Rattle.model.specs.DelayBound.{sumOf, maximaOf}
-use Rattle.model.specs.Admission.{Block, arrival, joinedBy, joinedLive}
+use Rattle.model.specs.declared.Block.{Block}
+use Rattle.model.specs.Admission.{arrival, joinedBy, joinedLive}
 use Rattle.model.specs.History.{Entry, History, live, isNone, liveOrders, entryDue, members, entering, joins, acceptIn, entryView, startsIn, leaves, leaveIn}
 use Rattle.model.specs.StateOf.{recordOver, recordOf, stateOf}
 use Rattle.schedule.specs.Valid.{_∈_, RisingBy}

@@ -16,7 +16,8 @@ use Rattle.model.specs.Lists.{at, only}
 use Rattle.model.specs.State.{State, idle, fresh}
 use Rattle.model.specs.Tick.{oneLess, stationAfter}
 use Rattle.model.specs.DelayBound.{sumOf, maximaOf, delayBound, boundTick, onTime}
-use Rattle.model.specs.Admission.{Block, arrival, joinedBy, joinedLive, accept}
+use Rattle.model.specs.declared.Block.{Block}
+use Rattle.model.specs.Admission.{arrival, joinedBy, joinedLive, accept}
 use Rattle.model.specs.History.{Entry, History, begun, live, isNone, liveOrders, entryDue, members, entryBound, acceptIn, entryView, startsIn, tickIn, leaves, leaveIn, advanceIn}
 use Rattle.model.specs.StateOf.{recordOf, stateOf}
 use Rattle.schedule.specs.Valid.{_∈_, Ready}

@@ -8,7 +8,7 @@ use Rattle.model.specs.declared.Service.{Service}
 use Rattle.model.specs.Limits.{maxCost}
 use Rattle.model.specs.State.{idle}
 use Rattle.model.specs.Tick.{oneLess}
-use Rattle.model.specs.Admission.{Block}
+use Rattle.model.specs.declared.Block.{Block}
 use Rattle.model.specs.History.{Entry, History, begun, entryBound, acceptIn, startsIn}
 use Rattle.model.specs.Table.{holdsFrom}
 use Rattle.schedule.specs.Valid.{_∈_}
@@ -30,7 +30,7 @@ ticked-ended l = record { count = length-map l ended; tickets = λ k. same-ticke
 
 -- an order of two stations with rank 0
 block : ℕ → ℕ → ℕ → Block
-block dueIn first second = record { dueIn = dueIn; ranks = 0 ∷ 0 ∷ []; costs = first ∷ second ∷ [] }
+block dueIn first second = record { «due_in» = dueIn; ranks = 0 ∷ 0 ∷ []; costs = first ∷ second ∷ [] }
 
 -- a cost in range
 abbrev InRange : ℕ → Type 0

@@ -9,7 +9,7 @@ use native.Mathlib.Omega.{arith}
 use borrow.Author.Tests.{eq-eqb, ne-eqb}
 use Rattle.model.specs.Lists.{largest, larger, any, has, only}
 use Rattle.model.specs.DelayBound.{sumOf, maximaOf}
-use Rattle.model.specs.Admission.{Block}
+use Rattle.model.specs.declared.Block.{Block}
 use Rattle.model.specs.History.{Entry}
 use Rattle.schedule.specs.Valid.{_∈_, RisingBy}
 use Rattle.schedule.proofs.Laws.{test, only-yes, only-no, only-in}

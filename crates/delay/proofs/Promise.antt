@@ -12,7 +12,8 @@ use Rattle.model.specs.Lists.{at, total, largest}
 use Rattle.model.specs.State.{State, fresh}
 use Rattle.model.specs.Tick.{moveTo, starts}
 use Rattle.model.specs.DelayBound.{sumOf, maximaOf, delayBound, boundTick}
-use Rattle.model.specs.Admission.{Block, arrival, joinedBy}
+use Rattle.model.specs.declared.Block.{Block}
+use Rattle.model.specs.Admission.{arrival, joinedBy}
 use Rattle.schedule.specs.Valid.{_∈_, Ready}
 use Rattle.schedule.specs.Pass.{Ticked, passTo}
 use Rattle.schedule.specs.Accept.{Acceptable, NextAfter, acceptNext}

@@ -9,7 +9,8 @@ use Rattle.model.specs.Lists.{at, all}
 use Rattle.model.specs.State.{State}
 use Rattle.model.specs.Tick.{starts}
 use Rattle.model.specs.DelayBound.{onTime}
-use Rattle.model.specs.Admission.{Block, arrival, joinedLive, accept}
+use Rattle.model.specs.declared.Block.{Block}
+use Rattle.model.specs.Admission.{arrival, joinedLive, accept}
 use Rattle.model.specs.History.{History, acceptIn, startsIn, leaveIn}
 use Rattle.model.specs.StateOf.{stateOf}
 use Rattle.schedule.specs.Valid.{Ready}

@@ -9,7 +9,8 @@ use Rattle.model.specs.declared.Service.{Service}
 use Rattle.model.specs.Lists.{at, total}
 use Rattle.model.specs.State.{State}
 use Rattle.model.specs.Tick.{moveTo, starts}
-use Rattle.model.specs.Admission.{Block, arrival, joinedBy}
+use Rattle.model.specs.declared.Block.{Block}
+use Rattle.model.specs.Admission.{arrival, joinedBy}
 use Rattle.schedule.specs.Valid.{_∈_, cost, Valid, Ready}
 use Rattle.schedule.specs.Starts.{Started}
 use Rattle.schedule.specs.Pass.{Ticked, passTo}

@@ -6,6 +6,7 @@ use lib.ListN.{length}
 use lib.Dec.{leb, ltb, eqb}
 use lib.IntN.{ℤ}
 use lib.Signed.{ltZ}
+use Rattle.model.specs.declared.Block.{Block}
 use Rattle.model.specs.declared.Order.{Order}
 use Rattle.model.specs.Limits.{maxLive, maxDueIn, defaultDueIn, lastTick, lastTicket}
 use Rattle.model.specs.Lists.{isZero, largest, larger, all}
@@ -17,17 +18,12 @@ use Rattle.model.specs.Soundness.{costsInRange, zeroBeyond}
 use Rattle.model.specs.Questions.{Question, _else_, Answer, zeros}
 
 -- "An order block is 28 bytes: due-in (4), eight ranks, eight costs (2 each)."
-pub record Block : Type 0 where
-  pub dueIn : ℕ
-  pub ranks : List ℕ
-  pub costs : List ℕ
-
 unfoldable pub blockOf : List ℕ → Block
-blockOf s = record { dueIn = word s blockDueInAt; ranks = eightBytes s blockRanksAt; costs = eightHalves s blockCostsAt }
+blockOf s = record { «due_in» = word s blockDueInAt; ranks = eightBytes s blockRanksAt; costs = eightHalves s blockCostsAt }
 
 -- "0 stands for 18,000. Due tick = tick of acceptance + due-in."
 unfoldable pub dueOf : ℕ → Block → ℕ
-dueOf accepted b = accepted + cond (isZero (b .dueIn)) defaultDueIn (b .dueIn)
+dueOf accepted b = accepted + cond (isZero (b .«due_in»)) defaultDueIn (b .«due_in»)
 
 -- The arrival (document 01: newcomer): its interference set is itself and the live orders, by their own costs. It waits at station 1.
 unfoldable pub arrival : State → Block → Order
@@ -80,19 +76,27 @@ smallest a (b ∷ l) = let least = smallest b l in cond (ltZ a least) a least
 unfoldable pub smallestMargin : State → Block → ℤ
 smallestMargin s b = smallest (margin (s .n) (arrival s b)) (map (margin (s .n)) (joinedLive s b))
 
--- Questions 5 to 12.
-unfoldable pub orderQuestions : State → List ℕ → List Question
-orderQuestions s bytes =
-    let b = blockOf bytes in
-    (eqb (length bytes) blockSize else 5)
-    ∷ (costsInRange (s .n) (b .costs) && zeroBeyond (s .n) (b .costs) && zeroBeyond (s .n) (b .ranks) else 6)
-    ∷ (leb (b .dueIn) maxDueIn else 7)
-    ∷ (leb (dueOf (s .clock) b) lastTick else 8)
+-- Question 5 is asked of the bytes; 6 and 7 of the block alone; 8 to 12 of the block at the counter.
+unfoldable pub blockLengthQuestion : List ℕ → Question
+blockLengthQuestion bytes = eqb (length bytes) blockSize else 5
+
+unfoldable pub blockQuestions : ℕ → Block → List Question
+blockQuestions n b =
+    (costsInRange n (b .costs) && zeroBeyond n (b .costs) && zeroBeyond n (b .ranks) else 6)
+    ∷ (leb (b .«due_in») maxDueIn else 7)
+    ∷ []
+
+unfoldable pub counterQuestions : State → Block → List Question
+counterQuestions s b =
+    (leb (dueOf (s .clock) b) lastTick else 8)
     ∷ (leb 1 (s .next) else 9)
     ∷ (ltb (length (s .orders)) maxLive else 10)
     ∷ (onTime (s .n) (arrival s b) else 11)
     ∷ (all (onTime (s .n)) (joinedLive s b) else 12)
     ∷ []
+
+unfoldable pub orderQuestions : State → List ℕ → List Question
+orderQuestions s bytes = let b = blockOf bytes in blockLengthQuestion bytes ∷ blockQuestions (s .n) b ++ counterQuestions s b
 
 -- What offer gives with its number: "the ticket, acceptance tick + delay sum, and the smallest margin"; 11 and 12 "give that same smallest margin".
 unfoldable pub offerAnswer : ℕ → State → Block → Answer

@@ -6,13 +6,14 @@ use mathlib.Core.Option.{Option, none, some}
 use Prim.Native.Nat.{ℕ, zero, suc, _+_}
 use lib.ListN.{length, replicate}
 use lib.Dec.{leb, eqb}
+use Rattle.model.specs.declared.Block.{Block}
 use Rattle.model.specs.declared.Service.{Service}
 use Rattle.model.specs.Limits.{maxStations}
 use Rattle.model.specs.Lists.{only, has}
 use Rattle.model.specs.State.{idle}
 use Rattle.model.specs.Tick.{View, startEach, oneLess, stationAfter, vacate}
 use Rattle.model.specs.DelayBound.{sumOf, maximaOf, delayBound}
-use Rattle.model.specs.Admission.{Block, blockOf, dueOf}
+use Rattle.model.specs.Admission.{blockOf, dueOf}
 use Rattle.model.specs.Calls.{Call, opening, quoting, offering, advancing}
 
 -- An accepted order: its block, the tickets of its interference set (document 01: company), and its out tick once it is out.

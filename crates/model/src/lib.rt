@@ -1,4 +1,4 @@
-// What an image holds of a station and of a live order, and document 01's limits. The definitions are in specs/, the worked
+// What an image holds of a station and of a live order, what an order block holds, and document 01's limits. The definitions are in specs/, the worked
 // cases in proofs/.
 pub mod limits; // limits.rt: the figures
 
@@ -20,4 +20,11 @@ pub struct Order {
     pub ranks: [u8; 8],
     pub costs: [u16; 8],
     pub maxima: [u16; 8],
+}
+
+// An order as it is offered (document 01: order block).
+pub struct Block {
+    pub due_in: u32,
+    pub ranks: [u8; 8],
+    pub costs: [u16; 8],
 }

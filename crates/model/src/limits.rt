@@ -5,6 +5,10 @@ pub const MAX_COST: u16 = 6000;
 
 pub const MAX_DUE_IN: u64 = 60000;
 
+pub const DEFAULT_DUE_IN: u64 = 18000;
+
 pub const MAX_LIVE: u8 = 32;
 
 pub const LAST_TICK: u32 = 4000000000;
+
+pub const LAST_TICKET: u32 = 4294967295;

@@ -9,7 +9,8 @@ use lib.Dec.{eqb}
 use Rattle.model.specs.declared.Order.{Order}
 use Rattle.model.specs.Limits.{lastTicket}
 use Rattle.model.specs.State.{State, idle}
-use Rattle.model.specs.Admission.{Block, arrival, joinedBy, joinedLive, accept}
+use Rattle.model.specs.declared.Block.{Block}
+use Rattle.model.specs.Admission.{arrival, joinedBy, joinedLive, accept}
 use Rattle.schedule.specs.Valid.{_∈_, serving, Busy, Fit, Valid}
 use Rattle.schedule.specs.Accept.{Acceptable, NextAfter, acceptNext}
 use Rattle.schedule.proofs.Laws.{same-ticket, by-cond, rising-map, rising-append}

@@ -14,7 +14,8 @@ use Rattle.model.specs.Limits.{maxStations, lastTicket}
 use Rattle.model.specs.Lists.{at}
 use Rattle.model.specs.State.{State, idle, fresh}
 use Rattle.model.specs.Tick.{oneLess, moveTo, starts, tick, leave, advance}
-use Rattle.model.specs.Admission.{Block, arrival, joinedBy, accept}
+use Rattle.model.specs.declared.Block.{Block}
+use Rattle.model.specs.Admission.{arrival, joinedBy, accept}
 use Rattle.schedule.specs.Valid.{_∈_, serving, cost, Waits, Busy, Valid}
 use Rattle.schedule.specs.Starts.{AtStart}
 use Rattle.schedule.specs.Pass.{passTo, AtPass}

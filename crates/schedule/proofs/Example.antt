@@ -6,7 +6,8 @@ use native.Mathlib.Omega.{arith}
 use Rattle.model.specs.declared.Service.{Service}
 use Rattle.model.specs.Lists.{at}
 use Rattle.model.specs.State.{idle, fresh}
-use Rattle.model.specs.Admission.{Block, accept}
+use Rattle.model.specs.declared.Block.{Block}
+use Rattle.model.specs.Admission.{accept}
 use Rattle.model.specs.Table.{holdsFrom}
 use Rattle.schedule.specs.Valid.{Valid}
 use Rattle.schedule.specs.Accept.{Acceptable}
@@ -15,7 +16,7 @@ use Rattle.schedule.proofs.Course.{reached-valid, valid-fresh, served-i
 
 -- an order of two stations
 block : ℕ → ℕ → ℕ → Block
-block rank first second = record { dueIn = 100; ranks = rank ∷ rank ∷ []; costs = first ∷ second ∷ [] }
+block rank first second = record { «due_in» = 100; ranks = rank ∷ rank ∷ []; costs = first ∷ second ∷ [] }
 
 -- what holds of two numbers holds of the entries of stations 1 and 2
 pub of-two : (P : ℕ → Type 0) (a b : ℕ) → P a → P b → (k : ℕ) → 1 ≤ k → k ≤ 2 → P (at 0 (a ∷ b ∷ []) k)

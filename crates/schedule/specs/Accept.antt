@@ -5,7 +5,8 @@ use mathlib.Core.List.{[], _∷_, _++_}
 use Prim.Native.Nat.{ℕ, _≤_, _<_}
 use Rattle.model.specs.Lists.{at}
 use Rattle.model.specs.State.{State}
-use Rattle.model.specs.Admission.{Block, arrival, joinedLive}
+use Rattle.model.specs.declared.Block.{Block}
+use Rattle.model.specs.Admission.{arrival, joinedLive}
 
 pub record Acceptable (s : State) (b : Block) : Type 0 where
   pub stations : 1 ≤ s .n

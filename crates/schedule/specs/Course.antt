@@ -8,7 +8,8 @@ use Rattle.model.specs.declared.Service.{Service}
 use Rattle.model.specs.Lists.{at}
 use Rattle.model.specs.Limits.{maxStations}
 use Rattle.model.specs.State.{State, idle, fresh}
-use Rattle.model.specs.Admission.{Block, accept}
+use Rattle.model.specs.declared.Block.{Block}
+use Rattle.model.specs.Admission.{accept}
 use Rattle.model.specs.Tick.{starts, advance}
 use Rattle.schedule.specs.Valid.{Valid}
 use Rattle.schedule.specs.Accept.{Acceptable}

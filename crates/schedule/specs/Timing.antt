@@ -5,7 +5,8 @@ use Prim.Native.Nat.{ℕ, _+_, _<_}
 use Rattle.model.specs.declared.Order.{Order}
 use Rattle.model.specs.Lists.{at}
 use Rattle.model.specs.State.{State, idle}
-use Rattle.model.specs.Admission.{Block, arrival, accept}
+use Rattle.model.specs.declared.Block.{Block}
+use Rattle.model.specs.Admission.{arrival, accept}
 use Rattle.model.specs.Tick.{starts, advance}
 use Rattle.schedule.specs.Valid.{_∈_, serving, cost, Busy, Valid}
 use Rattle.schedule.specs.Accept.{Acceptable}
