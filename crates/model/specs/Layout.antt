@@ -114,3 +114,6 @@ replyTicketAt = 4
 
 abbrev pub replyTickAt : ℕ
 replyTickAt = 8
+
+abbrev pub replyMarginAt : ℕ
+replyMarginAt = 12
