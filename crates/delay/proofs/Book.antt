@@ -24,7 +24,8 @@ use Rattle.schedule.specs.Accept.{acceptNext}
 use Rattle.schedule.proofs.Laws.{test, by-cond, only-in, rising-map, rising-append}
 use Rattle.delay.specs.Events.{passIn}
 use Rattle.delay.proofs.Sums.{map-map}
-use Rattle.delay.proofs.Members.{costsOf, costsIn, costs-moved, costs-joined, costs-apart, costs-own, sumOf-last, maximaOf-last}
+use Rattle.lists.proofs.Maxima.{sumOf-last, maximaOf-last}
+use Rattle.delay.proofs.Members.{costsOf, costsIn, costs-moved, costs-joined, costs-apart, costs-own}
 
 -- ---- what holds of tickets: they rise, and none is larger than the count of accepted orders
 pub record Filed (h : History) : Type 0 where

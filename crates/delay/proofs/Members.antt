@@ -1,19 +1,16 @@
--- The interference sets of a history: the costs of those entries whose tickets are in a list, when an entry joins and when entries move on. With them, sums and maxima
--- where a member is added at the end of the list.
+-- The interference sets of a history: the costs of those entries whose tickets are in a list, when an entry joins and when entries move on.
 use mathlib.Core.Path.{_≡_, refl, ap, _∙_}
 use mathlib.Core.Logic.{_⊎_, inl, inr}
 use mathlib.Core.Bool.{Bool, true, false}
 use mathlib.Core.List.{List, [], _∷_, _++_, map, append-nil, List·Memᴰ·head, List·Memᴰ·tail, Memᴰ·of-map}
-use Prim.Native.Nat.{ℕ, _+_, _<_, max}
+use Prim.Native.Nat.{ℕ, _<_}
 use native.Mathlib.Omega.{arith}
 use borrow.Author.Tests.{eq-eqb, ne-eqb}
-use Rattle.model.specs.Lists.{largest, larger, any, has, only}
-use Rattle.model.specs.DelayBound.{sumOf, maximaOf}
+use Rattle.model.specs.Lists.{any, has, only}
 use Rattle.model.specs.declared.Block.{Block}
 use Rattle.model.specs.History.{Entry}
 use Rattle.schedule.specs.Valid.{_∈_, RisingBy}
 use Rattle.schedule.proofs.Laws.{test, only-yes, only-no, only-in}
-use Rattle.delay.proofs.Sums.{total-append, total-one}
 
 -- ---- a number in a list
 has-first : (l : List ℕ) (x : ℕ) → has (x ∷ l) x ≡ true
@@ -104,27 +101,3 @@ costs-own p (x ∷ xs) r = go (costs-own p xs (r .1)) (test (p x))
     go : costsIn tickets xs ≡ map costsOf (only p xs) → (p x ≡ true) ⊎ (p x ≡ false) → costsIn (map (λ (e : Entry). e .ticket) (only p (x ∷ xs))) (x ∷ xs) ≡ map costsOf (only p (x ∷ xs))
     go ih (inl e) = rw (e, has-first tickets (x .ticket)) (ap {B = List (List ℕ)} (λ l. costsOf x ∷ l) (costs-other (x .ticket) tickets xs (λ y m q. omega (arith, r .0 y m)) ∙ ih))
     go ih (inr e) = rw (e, has-none tickets (x .ticket) beyond) ih
-
--- ---- sums and maxima, where a member is added at the end
-pub sumOf-last : (l : List (List ℕ)) (c : List ℕ) → sumOf (l ++ (c ∷ [])) ≡ largest c + sumOf l
-unfolding sumOf
-sumOf-last l c = omega (arith, total-append largest l (c ∷ []), total-one largest c)
-
-larger-comm : (xs ys : List ℕ) → larger xs ys ≡ larger ys xs
-unfolding larger
-larger-comm [] [] = refl
-larger-comm [] (y ∷ ys) = refl
-larger-comm (x ∷ xs) [] = refl
-larger-comm (x ∷ xs) (y ∷ ys) = let e : max x y ≡ max y x = omega arith in rw (e, larger-comm xs ys)
-
-larger-left-comm : (xs ys zs : List ℕ) → larger xs (larger ys zs) ≡ larger ys (larger xs zs)
-unfolding larger
-larger-left-comm [] ys zs = refl
-larger-left-comm (x ∷ xs) [] zs = refl
-larger-left-comm (x ∷ xs) (y ∷ ys) [] = larger-comm (x ∷ xs) (y ∷ ys)
-larger-left-comm (x ∷ xs) (y ∷ ys) (z ∷ zs) = let e : max x (max y z) ≡ max y (max x z) = omega arith in rw (e, larger-left-comm xs ys zs)
-
-pub maximaOf-last : (l : List (List ℕ)) (c : List ℕ) → maximaOf (l ++ (c ∷ [])) ≡ larger c (maximaOf l)
-unfolding maximaOf
-maximaOf-last [] c = refl
-maximaOf-last (x ∷ xs) c = ap (larger x) (maximaOf-last xs c) ∙ larger-left-comm x c (maximaOf xs)

@@ -17,7 +17,7 @@ use Rattle.model.specs.Admission.{arrival, joinedBy}
 use Rattle.schedule.specs.Valid.{_∈_, Ready}
 use Rattle.schedule.specs.Pass.{Ticked, passTo}
 use Rattle.schedule.specs.Accept.{Acceptable, NextAfter, acceptNext}
-use Rattle.schedule.proofs.Laws.{at-larger}
+use Rattle.lists.proofs.Maxima.{at-larger}
 use Rattle.schedule.proofs.Course.{valid-fresh}
 use Rattle.delay.specs.Bound.{weight}
 use Rattle.delay.specs.General.{Steady, Grows, GeneralBound, DelayTheorem}

@@ -17,10 +17,6 @@ use Rattle.image.specs.Pipeline.{listed}
 use Rattle.model.specs.declared.Order.{Order}
 use Rattle.model.specs.declared.Service.{Service}
 
--- What is read past the end of an array of records: a record with no entries in its arrays.
-abbrev pub past : Order
-past = record { ticket = 0; accepted = 0; due = 0; sum = 0; station = 0; ranks = []; costs = []; maxima = [] }
-
 pub length-service : (e : Service) → length (serviceBytes e) ≡ 8
 unfolding serviceBytes
 length-service e = refl

@@ -8,6 +8,7 @@ use native.Mathlib.Numerals.{add-one}
 use native.Mathlib.Omega.{arith}
 use lib.ListN.{length, getD, set, take, drop, replicate, length-append, length-drop, length-map}
 use lib.Seq.{take-suc-set, take-all, length-take-le, getD-take, set-at, drop-cons, drop-at, take-append-le, drop-append-le}
+use Rattle.model.specs.declared.Order.{Order}
 use Rattle.model.specs.Lists.{upward, concat, part}
 use Rattle.lists.specs.Stored.{Stored}
 use Rattle.lists.proofs.Stores.{stored-none, stored-then}
@@ -146,3 +147,7 @@ rows-more {f} {size} {l} {m} {t} {at} {j} {i} p e q h =
       stored = rw more (stored-then (p .stored) (rw (p .long) e) q);
       long = rw (more, length-append, p .long, h, add-one, mul-suc) (omega arith);
     }
+
+-- What is read past the end of an array of records: a record with no entries in its arrays.
+abbrev pub past : Order
+past = record { ticket = 0; accepted = 0; due = 0; sum = 0; station = 0; ranks = []; costs = []; maxima = [] }

@@ -2,3 +2,4 @@
 pub mod Stores
 pub mod Fills
 pub mod Tests
+pub mod Maxima

@@ -10,6 +10,7 @@ use Rattle.model.specs.declared.Service.{Service}
 use Rattle.model.specs.Lists.{concat, upward}
 use Rattle.model.specs.State.{State, idle}
 use Rattle.model.specs.Soundness.{isIdle}
+use Rattle.lists.proofs.Fills.{past}
 use Rattle.text.specs.Ascii.{ascii}
 use Rattle.text.specs.Decimal.{decimal}
 use Rattle.text.proofs.Rows.{map-rows, numbered-rows}
@@ -58,10 +59,6 @@ pub length-clause : (name : List ℕ) → length (clauseLine name) ≡ 7 + lengt
 unfolding clauseLine
 length-clause name = simp length-append
 
--- What stands past the end of an array of orders.
-abbrev pub noOrder : Order
-noOrder = record { ticket = 0; accepted = 0; due = 0; sum = 0; station = 0; ranks = []; costs = []; maxima = [] }
-
 abbrev pub numberRow : List ℕ → ℕ → List ℕ
 numberRow vs i = figure " " (getD vs i 0)
 
@@ -69,7 +66,7 @@ abbrev pub stationRow : List Service → ℕ → List ℕ
 stationRow services i = stationLine (i + 1) (getD services i idle)
 
 abbrev pub orderRow : ℕ → List Order → ℕ → List ℕ
-orderRow n orders i = orderLine n (getD orders i noOrder)
+orderRow n orders i = orderLine n (getD orders i past)
 
 pub spaced-rows : (n : ℕ) (vs : List ℕ) → n ≤ length vs → spaced (take n vs) ≡ concat (upward 0 n (numberRow vs))
 unfolding spaced
@@ -81,4 +78,4 @@ station-rows n services h = ap concat (numbered-rows idle stationLine n services
 
 pub order-rows : (n live : ℕ) (orders : List Order) → live ≤ length orders → orderLines n (take live orders) ≡ concat (upward 0 live (orderRow n orders))
 unfolding orderLines
-order-rows n live orders h = ap concat (map-rows noOrder (orderLine n) live orders h)
+order-rows n live orders h = ap concat (map-rows past (orderLine n) live orders h)

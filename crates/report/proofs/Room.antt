@@ -13,13 +13,14 @@ use Rattle.model.specs.declared.Service.{Service}
 use Rattle.model.specs.Limits.{maxStations}
 use Rattle.model.specs.State.{State, idle}
 use Rattle.model.specs.Soundness.{isIdle}
+use Rattle.lists.proofs.Fills.{past}
 use Rattle.text.specs.Decimal.{decimal}
 use Rattle.text.proofs.Decimals.{length-decimal}
 use Rattle.text.proofs.Rows.{rows-at-most}
 use Rattle.roundtrip.specs.InRange.{byteLimit, halfLimit, wordLimit, Row, ServiceInRange, OrderInRange, InRange}
 use Rattle.roundtrip.proofs.Rows.{getD-in}
 use Rattle.report.specs.Report.{lineFeed, figure, spaced, serviceWords, stationLine, orderLine, stationLines, orderLines, headLines, stateReport}
-use Rattle.report.proofs.Lengths.{noOrder, numberRow, stationRow, orderRow, words-idle, length-busy, length-station, length-ticks, length-figures, length-costs, length-order, length-head, length-state, spaced-rows, station-rows, order-rows}
+use Rattle.report.proofs.Lengths.{numberRow, stationRow, orderRow, words-idle, length-busy, length-station, length-ticks, length-figures, length-costs, length-order, length-head, length-state, spaced-rows, station-rows, order-rows}
 
 byte-digits : (v : ℕ) → v < byteLimit → length (figure " " v) ≤ 4
 byte-digits v h = omega (arith, length-decimal 2 v (omega arith))
@@ -91,7 +92,7 @@ module _ (s : State) (r : InRange s) (h : s .n ≤ maxStations) where
       (omega (arith, rows-at-most (orderRow (s .n) (s .orders)) 226 (length (s .orders)) row, r .live))
     where
       row : (i : ℕ) → i < length (s .orders) → length (orderRow (s .n) (s .orders) i) ≤ 226
-      row i k = order-room (s .n) h (getD (s .orders) i noOrder) (r .orders _ (getD-in (s .orders) noOrder i k))
+      row i k = order-room (s .n) h (getD (s .orders) i past) (r .orders _ (getD-in (s .orders) past i k))
 
 -- 44 for the head, 39 for each of 8 stations and 226 for each of 32 orders make 7,588.
 pub state-room : (s : State) → InRange s → s .n ≤ maxStations → length (stateReport s) ≤ 8000

@@ -13,6 +13,7 @@ use Rattle.model.specs.State.{State, idle}
 use Rattle.model.specs.Layout.{recordSize}
 use Rattle.model.specs.Image.{liveCount, serviceBytes, decode, encode}
 use Rattle.model.specs.Soundness.{liveCountInRange, unusedRecordsZero}
+use Rattle.lists.proofs.Fills.{past}
 use Rattle.schedule.specs.Valid.{serving, Busy}
 use Rattle.schedule.proofs.Laws.{leb-cases}
 use Rattle.roundtrip.specs.InRange.{OrderInRange, InRange}
@@ -20,7 +21,7 @@ use Rattle.roundtrip.specs.RoundTrip.{EncodeDecode}
 use Rattle.roundtrip.specs.SoundFacts.{SoundState, SoundGives, GivesSound, SoundValid}
 use Rattle.roundtrip.proofs.Rows.{getD-in}
 use Rattle.roundtrip.proofs.Parts.{station-zeros, end-zeros}
-use Rattle.roundtrip.proofs.Written.{none, live-read, service-part, record-part, spare-part, decode-encode}
+use Rattle.roundtrip.proofs.Written.{live-read, service-part, record-part, spare-part, decode-encode}
 use Rattle.roundtrip.proofs.Read.{decode-in-range}
 use Rattle.roundtrip.proofs.Zeros.{ZeroParts, zero-bytes-say, zeros-zero}
 use Rattle.roundtrip.proofs.Rewritten.{rewritten}
@@ -49,12 +50,12 @@ module _ (s : State) (f : InRange s) where
       record {
         header = refl;
         entry = λ i h. rw (service-part s f i h);
-        station = λ i h. rw (record-part s f i h, station-zeros (getD (s .orders) i none) (order i h));
-        end = λ i h. rw (record-part s f i h, end-zeros (getD (s .orders) i none) (order i h));
+        station = λ i h. rw (record-part s f i h, station-zeros (getD (s .orders) i past) (order i h));
+        end = λ i h. rw (record-part s f i h, end-zeros (getD (s .orders) i past) (order i h));
       }
     where
-      order : (i : ℕ) → i < length (s .orders) → OrderInRange (getD (s .orders) i none)
-      order i h = f .orders (getD (s .orders) i none) (getD-in (s .orders) none i h)
+      order : (i : ℕ) → i < length (s .orders) → OrderInRange (getD (s .orders) i past)
+      order i h = f .orders (getD (s .orders) i past) (getD-in (s .orders) past i h)
 
   unused-zero : unusedRecordsZero (encode s) ≡ true
   unfolding unusedRecordsZero

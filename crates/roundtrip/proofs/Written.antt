@@ -12,6 +12,7 @@ use Rattle.model.specs.Bytes.{twoBytes, fourBytes}
 use Rattle.model.specs.State.{State, idle}
 use Rattle.model.specs.Layout.{mark, version, servicesAt, serviceSize, recordsAt, recordSize, servicePart, recordPart}
 use Rattle.model.specs.Image.{marked, liveCount, serviceOf, serviceBytes, orderOf, orderBytes, decode, encode}
+use Rattle.lists.proofs.Fills.{past}
 use Rattle.schedule.specs.Valid.{_∈_}
 use Rattle.roundtrip.specs.InRange.{byteLimit, Below, InRange}
 use Rattle.roundtrip.specs.RoundTrip.{DecodeEncode, EncodeLength, EncodeBytes, EncodeMarked}
@@ -35,10 +36,6 @@ spare s = replicate (recordSize * (maxLive - length (s .orders))) 0
 pub encode-marked : EncodeMarked
 unfolding marked encode same
 encode-marked s = refl
-
--- A record with nothing in it, for the places past the live ones.
-abbrev pub none : Order
-none = record { ticket = 0; accepted = 0; due = 0; sum = 0; station = 0; ranks = []; costs = []; maxima = [] }
 
 module _ (s : State) where
   pub live-read : liveCount (encode s) ≡ length (s .orders)
@@ -81,16 +78,16 @@ module _ (s : State) (f : InRange s) where
       read-each idle (s .services) maxStations (λ i. serviceOf (servicePart (encode s) i)) (f .eight)
       (λ i h. ap serviceOf (service-part i h) ∙ service-read (getD (s .services) i idle) (f .services _ (getD-in (s .services) idle i (rw (f .eight) h))))
 
-  pub record-part : (i : ℕ) → i < length (s .orders) → recordPart (encode s) i ≡ orderBytes (getD (s .orders) i none)
+  pub record-part : (i : ℕ) → i < length (s .orders) → recordPart (encode s) i ≡ orderBytes (getD (s .orders) i past)
   record-part i h =
       rw (after-entries s)
       (part-after (header s ++ entries s) (records s ++ spare s) (recordSize * i) (recordsAt + recordSize * i) recordSize (rw front-length)
-      ∙ rows-part orderBytes recordSize none (s .orders) (spare s) records-sized i h)
+      ∙ rows-part orderBytes recordSize past (s .orders) (spare s) records-sized i h)
 
   orders-read : upward 0 (length (s .orders)) (λ i. orderOf (recordPart (encode s) i)) ≡ s .orders
   orders-read =
-      read-each none (s .orders) (length (s .orders)) (λ i. orderOf (recordPart (encode s) i)) refl
-      (λ i h. ap orderOf (record-part i h) ∙ order-read (getD (s .orders) i none) (f .orders _ (getD-in (s .orders) none i h)))
+      read-each past (s .orders) (length (s .orders)) (λ i. orderOf (recordPart (encode s) i)) refl
+      (λ i h. ap orderOf (record-part i h) ∙ order-read (getD (s .orders) i past) (f .orders _ (getD-in (s .orders) past i h)))
 
   pub spare-part : drop (recordsAt + recordSize * length (s .orders)) (encode s) ≡ spare s
   spare-part = rw (parts s) (drop-at (header s ++ entries s ++ records s) (spare s) (recordsAt + recordSize * length (s .orders)) records-length)

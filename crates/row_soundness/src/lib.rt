@@ -60,7 +60,7 @@ pub fn maxima_in_range(n: u32, costs: [u16; 8], maxima: [u16; 8]) -> bool
 
 // The largest entry.
 pub fn largest(costs: [u16; 8]) -> u32
-    ensures { λ r. ⌜ r ≡ lists.largest costs ⌝ }
+    ensures { λ r. ⌜ (r ≡ lists.largest costs) × (r < 65536) ⌝ }
 {
     let mut m: u32 = 0;
     let mut k: usize = 0;

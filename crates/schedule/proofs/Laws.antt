@@ -11,8 +11,9 @@ use lib.Dec.{leb, eqb}
 use borrow.Author.Tests.{leb-true, leb-false, eqb-true, eqb-false}
 use Rattle.model.specs.declared.Order.{Order}
 use Rattle.model.specs.declared.Service.{Service}
-use Rattle.model.specs.Lists.{at, largest, larger, all, only, numbered}
+use Rattle.model.specs.Lists.{at, largest, all, only, numbered}
 pub use Rattle.lists.proofs.Tests.{and-both, length-numbered}
+pub use Rattle.lists.proofs.Maxima.{at-larger}
 use Rattle.schedule.specs.Valid.{_∈_, RisingBy, Rising}
 
 -- ---- tests: each answer with the fact that it tells
@@ -95,18 +96,6 @@ getD-largest (x ∷ xs) (suc i) = omega (arith, getD-largest xs i)
 pub at-largest : (l : List ℕ) (k : ℕ) → at 0 l k ≤ largest l
 at-largest l zero = omega arith
 at-largest l (suc i) = getD-largest l i
-
-getD-larger : (xs ys : List ℕ) (i : ℕ) → getD (larger xs ys) i 0 ≡ max (getD xs i 0) (getD ys i 0)
-unfolding larger
-getD-larger [] ys i = omega arith
-getD-larger (x ∷ xs) [] zero = omega arith
-getD-larger (x ∷ xs) [] (suc i) = omega arith
-getD-larger (x ∷ xs) (y ∷ ys) zero = refl
-getD-larger (x ∷ xs) (y ∷ ys) (suc i) = getD-larger xs ys i
-
-pub at-larger : (xs ys : List ℕ) (k : ℕ) → at 0 (larger xs ys) k ≡ max (at 0 xs k) (at 0 ys k)
-at-larger xs ys zero = omega arith
-at-larger xs ys (suc i) = getD-larger xs ys i
 
 -- ---- the entries that pass a test
 module _ {A : Type 0} (p : A → Bool) where

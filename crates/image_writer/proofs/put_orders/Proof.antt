@@ -7,8 +7,7 @@ use borrow.Author.Needs.{needs}
 use Rattle.model.specs.Lists.{concat}
 use Rattle.model.specs.Image.{orderBytes}
 use Rattle.lists.proofs.Stores.{stored-same}
-use Rattle.lists.proofs.Fills.{Rows, rows-none, rows-more, map-upward}
-use Rattle.image_writer.proofs.Rows.{past}
+use Rattle.lists.proofs.Fills.{Rows, rows-none, rows-more, map-upward, past}
 use Rattle.image_writer.proofs.put_orders.Statement.{statement}
 use Rattle.image_writer.proofs.put_orders.Tie as tie
 

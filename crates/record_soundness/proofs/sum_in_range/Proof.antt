@@ -9,7 +9,7 @@ largest-requires c κs = search needs
 
 returns : tie.Need-returns
 unfolding sumInRange
-returns c = rw (c .before .largest .ensures)
+returns c = rw (c .before .largest .ensures .0)
 
 pub sum-in-range-spec : {M : Type 1} → statement M
 sum-in-range-spec = tie.close (tie.spec largest-requires returns)

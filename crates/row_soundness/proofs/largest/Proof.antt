@@ -1,6 +1,6 @@
 -- The test of the entries so far.
 use mathlib.Core.Path.{_≡_, refl, sym, _∙_}
-use Prim.Native.Nat.{_≤_, _-_}
+use Prim.Native.Nat.{_≤_, _<_, _-_}
 use native.Mathlib.Omega.{arith}
 use lib.Seq.{take-all}
 use lib.ListN.{length, take}
@@ -11,14 +11,14 @@ use Rattle.row_soundness.proofs.largest.Statement.{statement}
 use Rattle.row_soundness.proofs.largest.Tie as tie
 
 abbrev Inv-loop : tie.InvT-loop
-Inv-loop costs m₀ k₀ m k = (k ≤ 8) × (m ≡ largest (take k costs))
+Inv-loop costs m₀ k₀ m k = (k ≤ 8) × (m ≡ largest (take k costs)) × (m < 65536)
 
 abbrev μ-loop : tie.MeasureT-loop
 μ-loop costs m₀ k₀ m k = 8 - k
 
 loop-holds : tie.Need-loop-holds Inv-loop μ-loop
 unfolding largest
-loop-holds c = (omega arith, refl)
+loop-holds c = (omega arith, refl, omega arith)
 
 mul-wide : tie.Need-mul-wide Inv-loop μ-loop
 mul-wide c = omega arith
@@ -43,7 +43,7 @@ loop-again c =
     let k = c .before .before .before in
     let row = k .before .args .t1 in
     let long : length row ≡ 8 = search needs in
-    (omega arith, c .larger .ensures ∙ (rw (c .before .wide .ensures .0, k .loop .inv .1) (sym (largest-more row (k .loop .k) (omega arith)))))
+    (omega arith, c .larger .ensures ∙ (rw (c .before .wide .ensures .0, k .loop .inv .1) (sym (largest-more row (k .loop .k) (omega arith)))), omega (arith, c .larger .ensures, c .before .wide .ensures .1, k .loop .inv .2))
 
 returns : tie.Need-returns Inv-loop μ-loop
 returns c =
@@ -51,7 +51,7 @@ returns c =
     let row = top .args .t1 in
     let long : length row ≡ 8 = search needs in
     let e : c .before .loop .k ≡ 8 = omega arith in
-    rw (e, take-all 8 row (omega arith)) at (c .before .loop .inv .1)
+    (rw (e, take-all 8 row (omega arith)) at (c .before .loop .inv .1), c .before .loop .inv .2)
 
 pub largest-spec : {M : Type 1} → statement M
 largest-spec =

@@ -1,0 +1,2 @@
+-- What is kept of an interference set.
+pub mod Interference

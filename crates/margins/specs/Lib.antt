@@ -1,0 +1,2 @@
+-- The range of margins.
+pub mod Margins
