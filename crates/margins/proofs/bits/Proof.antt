@@ -1,31 +1,28 @@
+-- By the sign.
+use mathlib.Core.Path.{ap}
+use lib.IntN.{natAbs}
+use Rattle.model.specs.Bytes.{bits32}
+use Rattle.margins.proofs.SignLaws.{short, widened, read-up, sum-fits, sum-read, cast-up}
 use Rattle.margins.proofs.bits.Statement.{statement}
 use Rattle.margins.proofs.bits.Tie as tie
-use Rattle.margins.proofs.bits.Reads as reads
-use Rattle.margins.proofs.bits.Lts as lts
 
--- src/lib.rt:73:10
 cast-result : tie.Need-cast-result
-cast-result c = ?
+cast-result c = widened _ (c .before .fits .x)
 
--- src/lib.rt:73:10
 add-result : tie.Need-add-result
-add-result c = ?
+add-result c = sum-fits _ (c .before .fits .x) (c .if1 .taken)
 
--- src/lib.rt:73:9
 cast-result-2 : tie.Need-cast-result-2
-cast-result-2 c = ?
+cast-result-2 c = cast-up (bits32 (c .before .args .x)) (sum-read _ (c .before .fits .x) (c .if1 .taken)) (short _ (c .before .fits .x))
 
--- src/lib.rt:75:9
 cast-result-3 : tie.Need-cast-result-3
-cast-result-3 c = ?
+cast-result-3 c = cast-up (bits32 (c .before .args .x)) (read-up _ (c .before .fits .x) (c .if1 .left)) (short _ (c .before .fits .x))
 
--- src/lib.rt:69:1
 returns : tie.Need-returns
-returns c = ?
+returns c = ap natAbs (sum-read _ (c .before .fits .x) (c .if1 .taken))
 
--- src/lib.rt:69:1
 returns-2 : tie.Need-returns-2
-returns-2 c = ?
+returns-2 c = ap natAbs (read-up _ (c .before .fits .x) (c .if1 .left))
 
 pub bits-spec : {M : Type 1} → statement M
 bits-spec =

@@ -1,25 +1,26 @@
+-- The parts do not pass 32 bits, since the whole does not.
+use mathlib.Core.Path.{_≡_}
+use Prim.Native.Nat.{_+_, _<_}
+use native.Mathlib.Omega.{arith}
 use borrow.Author.Needs.{needs}
+use Rattle.model.specs.DelayBound.{boundTick, delayBound}
 use Rattle.margins.proofs.bound_tick.Statement.{statement}
 use Rattle.margins.proofs.bound_tick.Tie as tie
-use Rattle.margins.proofs.bound_tick.Reads as reads
-use Rattle.margins.proofs.bound_tick.Lts as lts
-use Rattle.row_soundness.proofs.before_last.Reads as before-last-reads
 
--- src/lib.rt:26:27
 before-last-requires : tie.Need-before-last-requires
 before-last-requires c κs = search needs
 
--- src/lib.rt:26:19
 add-result : tie.Need-add-result
-add-result c = ?
+unfolding boundTick delayBound
+add-result c = record { fits = omega (arith, c .before .before .before .pre .tick, c .before .before-last .ensures .0) }
 
--- src/lib.rt:26:5
 add-result-2 : tie.Need-add-result-2
-add-result-2 c = ?
+unfolding boundTick delayBound
+add-result-2 c = record { fits = omega (arith, c .before .before .before .before .pre .tick, c .before .before .before-last .ensures .0) }
 
--- src/lib.rt:21:1
 returns : tie.Need-returns
-returns c = ?
+unfolding boundTick delayBound
+returns c = rw (c .before .before .before-last .ensures .0)
 
 pub bound-tick-spec : {M : Type 1} → statement M
 bound-tick-spec = tie.close (tie.spec before-last-requires add-result add-result-2 returns)

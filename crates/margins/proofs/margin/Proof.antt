@@ -1,34 +1,38 @@
+-- The difference is made at 64 bits and fits 32.
+use mathlib.Core.Path.{_≡_, ap, _∙_}
+use native.Mathlib.Omega.{arith}
+use lib.IntN.{pos}
 use borrow.Author.Needs.{needs}
+use Rattle.model.specs.DelayBound as delay
+use Rattle.model.specs.DelayBound.{boundTick}
+use Rattle.margins.proofs.SignLaws.{made-fits, cast-fits, cast-read}
 use Rattle.margins.proofs.margin.Statement.{statement}
 use Rattle.margins.proofs.margin.Tie as tie
-use Rattle.margins.proofs.margin.Reads as reads
-use Rattle.margins.proofs.margin.Lts as lts
-use Rattle.margins.proofs.bound_tick.Reads as bound-tick-reads
-use Rattle.margins.proofs.signed.Reads as signed-reads
 
--- src/lib.rt:40:6
 signed-requires : tie.Need-signed-requires
 signed-requires c κs = search needs
 
--- src/lib.rt:40:29
 bound-tick-requires : tie.Need-bound-tick-requires
 bound-tick-requires c κs = search needs
 
--- src/lib.rt:40:22
 signed-requires-2 : tie.Need-signed-requires-2
 signed-requires-2 c κs = search needs
 
--- src/lib.rt:40:6
 sub-result : tie.Need-sub-result
-sub-result c = ?
+sub-result c =
+    let top = c .before .before .before in
+    made-fits _ _ (top .pre .above) (top .pre .below) _ _ (c .before .before .signed .ensures) (c .signed2 .ensures ∙ ap pos (c .before .bound-tick .ensures)) (omega arith) (top .pre .tick)
 
--- src/lib.rt:40:5
 cast-result : tie.Need-cast-result
-cast-result c = ?
+cast-result c =
+    let top = c .before .before .before in
+    cast-fits _ _ (top .pre .above) (top .pre .below) _ _ (c .before .before .signed .ensures) (c .signed2 .ensures ∙ ap pos (c .before .bound-tick .ensures)) (omega arith) (top .pre .tick)
 
--- src/lib.rt:36:1
 returns : tie.Need-returns
-returns c = ?
+unfolding delay.margin
+returns c =
+    let top = c .before .before .before in
+    cast-read _ _ (top .pre .above) (top .pre .below) _ _ (c .before .before .signed .ensures) (c .signed2 .ensures ∙ ap pos (c .before .bound-tick .ensures)) (omega arith) (top .pre .tick)
 
 pub margin-spec : {M : Type 1} → statement M
 margin-spec =

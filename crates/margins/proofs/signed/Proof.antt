@@ -1,16 +1,16 @@
+-- A number of 32 bits is below half of 64.
+use native.Mathlib.Omega.{arith}
+use mir.Syntax.{w64}
+use mir.Facts.{toZ-pos}
 use borrow.Author.Needs.{needs}
 use Rattle.margins.proofs.signed.Statement.{statement}
 use Rattle.margins.proofs.signed.Tie as tie
-use Rattle.margins.proofs.signed.Reads as reads
-use Rattle.margins.proofs.signed.Lts as lts
 
--- src/lib.rt:32:5
 cast-result : tie.Need-cast-result
 cast-result c = search needs
 
--- src/lib.rt:29:1
 returns : tie.Need-returns
-returns c = ?
+returns c = toZ-pos w64 {n = c .args .x} (omega arith)
 
 pub signed-spec : {M : Type 1} → statement M
 signed-spec = tie.close (tie.spec cast-result returns)

@@ -1,15 +1,19 @@
+-- By the test of the two, read from their bits.
+use mathlib.Core.Path.{_∙_}
+use mir.Syntax.{w32}
+use mir.Facts.{toZ-ofZ}
+use Rattle.model.specs.Admission.{smallest}
+use Rattle.margins.proofs.SignLaws.{order-read}
 use Rattle.margins.proofs.smaller.Statement.{statement}
 use Rattle.margins.proofs.smaller.Tie as tie
-use Rattle.margins.proofs.smaller.Reads as reads
-use Rattle.margins.proofs.smaller.Lts as lts
 
--- src/lib.rt:43:1
 returns : tie.Need-returns
-returns c = ?
+unfolding smallest
+returns c = let s = c .before in toZ-ofZ {w = w32} (s .fits .a) ∙ rw (order-read (s .fits .a) (s .fits .b) (c .if1 .taken))
 
--- src/lib.rt:43:1
 returns-2 : tie.Need-returns-2
-returns-2 c = ?
+unfolding smallest
+returns-2 c = let s = c .before in toZ-ofZ {w = w32} (s .fits .b) ∙ rw (order-read (s .fits .a) (s .fits .b) (c .if1 .left))
 
 pub smaller-spec : {M : Type 1} → statement M
 smaller-spec = tie.close (tie.spec returns returns-2)

@@ -1,0 +1,3 @@
+-- Laws of signed numbers and of the smallest margin.
+pub mod SignLaws
+pub mod LeastLaws
