@@ -1,0 +1,2 @@
+-- Laws of offers.
+pub mod PipelineLaws

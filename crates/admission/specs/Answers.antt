@@ -1,0 +1,38 @@
+-- What is asked of a state that an order is offered to, and what an offer's answer says.
+use mathlib.Core.Path.{_≡_}
+use mathlib.Core.List.{List}
+use Prim.Native.Nat.{ℕ, _≤_, _<_}
+use Rattle.model.specs.declared.Block.{Block}
+use Rattle.model.specs.declared.Order.{Order}
+use Rattle.model.specs.Limits.{lastTick}
+use Rattle.model.specs.State.{State}
+use Rattle.model.specs.Questions.{Question, firstNo}
+use Rattle.model.specs.Admission.{arrival, offerAnswer, quoteAnswer}
+use Rattle.image.specs.declared.Pipeline.{Pipeline}
+use Rattle.image.specs.Pipeline.{listed, padded}
+use Rattle.roundtrip.specs.SoundFacts.{SoundInRange}
+use Rattle.admission.specs.declared.decision.Decision.{Decision}
+use Rattle.admission.specs.declared.offer.Offered.{Offered}
+use Rattle.admission.specs.Decision.{numberOf, answerOf}
+
+-- A state that a sound image says, as code carries it.
+pub record SoundPipeline (p : Pipeline) : Type 0 where
+  pub whole : p ≡ padded (listed p)
+  pub sound : SoundInRange (listed p)
+
+-- The arrival, and that its bound tick has room in 32 bits: 33 members' largest costs of 16 bits each.
+pub record Arrives (p : Pipeline) (b : Block) (a : Order) : Type 0 where
+  pub is-arrival : a ≡ arrival (listed p) b
+  pub few : a .sum < 2162688
+  pub due : a .due ≤ lastTick
+
+-- The first "no" among some questions, and what offer and quote give with it.
+pub record Decides (questions : List Question) (s : State) (b : Block) (d : Decision) : Type 0 where
+  pub number-is : numberOf d ≡ firstNo questions
+  pub offered : answerOf (s .next) d ≡ offerAnswer (numberOf d) s b
+  pub quoted : answerOf 0 d ≡ quoteAnswer (numberOf d) s b
+
+-- With it the arrival, where it is accepted.
+pub record Offers (questions : List Question) (s : State) (b : Block) (o : Offered) : Type 0 where
+  pub decides : Decides questions s b (o .decision)
+  pub arrives : numberOf (o .decision) ≡ 0 → o .arrival ≡ arrival s b
