@@ -1,1 +1,2 @@
--- Proofs of the theorems about offers.
+-- The questions, on time or late, and the smallest margin give what an offer returns; what it leaves follows from the state with the arrival accepted.
+pub mod Questions

@@ -64,7 +64,7 @@ pub due-says : (o : Order) → Says (dueInRange o) (((o .accepted + 1 ≤ o .due
 unfolding dueInRange
 due-says o = and-says (within-says (o .accepted + 1) (o .accepted + maxDueIn) (o .due)) (leb-says (o .due) lastTick)
 
-zero-beyond : (n : ℕ) (l : List ℕ) → Says (zeroBeyond n l) ((k : ℕ) → n < k → at 0 l k ≡ 0)
+pub zero-beyond : (n : ℕ) (l : List ℕ) → Says (zeroBeyond n l) ((k : ℕ) → n < k → at 0 l k ≡ 0)
 unfolding zeroBeyond
 zero-beyond n l = beyond-says isZero (λ x. x ≡ 0) (λ x. eqb-says x 0) 0 refl n l
 
