@@ -1,2 +1,5 @@
 -- The questions, on time or late, and the smallest margin give what an offer returns; what it leaves follows from the state with the arrival accepted.
 pub mod Questions
+pub mod Times
+pub mod Margins
+pub mod Exact

@@ -1,11 +1,12 @@
 -- The first "no" among an offer's questions. A number that no question among the first ten gives is decided by the last two, and says that the ten pass: that is `Considered`.
 use mathlib.Core.Path.{_≡_, refl, sym}
+use mathlib.Core.Logic.{_⊎_, inl, inr}
 use mathlib.Core.Bool.{Bool, true, false, not, _&&_, true≢false}
 use mathlib.Core.List.{List, [], _∷_, _++_}
 use Prim.Native.Nat.{ℕ, _≤_, _<_}
 use native.Mathlib.Omega.{arith}
-use lib.ListN.{length, take, drop, take-append-drop}
-use lib.Dec.{leb, ltb, eqb}
+use lib.ListN.{length, take, drop}
+use lib.Dec.{eqb}
 use borrow.Author.Tests.{eqb-false, not-true}
 use Rattle.model.specs.declared.Block.{Block}
 use Rattle.model.specs.Limits.{maxStations, maxLive, maxCost, maxDueIn, lastTick}
@@ -14,7 +15,7 @@ use Rattle.model.specs.Bytes.{eightHalves}
 use Rattle.model.specs.State.{State}
 use Rattle.model.specs.Layout.{imageSize, blockSize, replySize}
 use Rattle.model.specs.DelayBound.{onTime}
-use Rattle.model.specs.Image.{marked, decode}
+use Rattle.model.specs.Image.{decode}
 use Rattle.model.specs.Soundness.{stationCountInRange, costsInRange, zeroBeyond, sound}
 use Rattle.model.specs.Questions.{Question, _else_, firstNo}
 use Rattle.model.specs.Admission.{blockOf, dueOf, arrival, joinedLive, blockLengthQuestion, blockQuestions, counterQuestions, orderQuestions}
@@ -23,7 +24,7 @@ use Rattle.lists.proofs.Tests.{and-both}
 use Rattle.roundtrip.proofs.Tests.{Says, leb-says, ltb-says, eqb-says, and-says, within-says, entries-say, first-say}
 use Rattle.roundtrip.proofs.Clauses.{zero-beyond}
 use Rattle.roundtrip.proofs.Facts.{sound-says}
-use Rattle.offers.specs.Considered.{Fitting, Considered}
+use Rattle.offers.specs.Considered.{Considered}
 use Rattle.offers.specs.Exact.{_⇔_}
 
 -- A question's answer, and whether its "no" gives another number than n.
@@ -74,6 +75,10 @@ second-fails a b = record { only = only a b; if = λ t. rw (t .0, t .1) }
     only true true e = absurd (omega arith)
     only true false e = (refl, refl)
     only false b e = absurd (omega arith)
+
+-- The numbers that are decided by the last two.
+abbrev pub Decided : ℕ → Type 0
+Decided n = (n ≡ 0) ⊎ (n ≡ 11) ⊎ (n ≡ 12)
 
 -- Question 6 of a block with eight costs.
 module _ (n : ℕ) (few : n ≤ maxStations) (b : Block) (eight : length (b .costs) ≡ maxStations) where
@@ -149,8 +154,16 @@ module _ (image block reply : List ℕ) where
   abbrev pub last : ℕ
   last = let s = decode image in let b = blockOf block in lastTwo (onTime (s .n) (arrival s b)) (all (onTime (s .n)) (joinedLive s b))
 
-  number-is : (n : ℕ) → all (gives-other n) (take 10 questions) ≡ true → (offerNumber image block reply ≡ n) ⇔ (Considered image block reply × (last ≡ n))
-  unfolding offerNumber questions blockQuestions counterQuestions orderQuestions imageQuestions
-  number-is n other =
-      let f = first-no n (take 10 questions) (drop 10 questions) other in
+  pub number-is : (n : ℕ) → Decided n → (offerNumber image block reply ≡ n) ⇔ (Considered image block reply × (last ≡ n))
+  unfolding offerNumber questions all gives-other replyQuestion lengthQuestion imageQuestions blockLengthQuestion blockQuestions counterQuestions orderQuestions
+  number-is n decided =
+      let f = first-no n (take 10 questions) (drop 10 questions) (others decided) in
       record { only = λ e. let t = f .only e in (ten-say .tells (t .0), t .1); if = λ t. f .if (ten-say .passes (t .0), t .1) }
+    where
+      others : {n : ℕ} → Decided n → all (gives-other n) (take 10 questions) ≡ true
+      others (inl e) = rw e
+      others (inr (inl e)) = rw e
+      others (inr (inr e)) = rw e
+
+  pub considered : Decided (offerNumber image block reply) → Considered image block reply
+  considered decided = number-is (offerNumber image block reply) decided .only refl .0
