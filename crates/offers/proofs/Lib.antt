@@ -3,3 +3,5 @@ pub mod Questions
 pub mod Times
 pub mod Margins
 pub mod Exact
+pub mod Accept
+pub mod Kept

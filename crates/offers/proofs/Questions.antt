@@ -89,6 +89,10 @@ module _ (n : ℕ) (few : n ≤ maxStations) (b : Block) (eight : length (b .cos
       (and-says (first-say (within 1 maxCost) (λ c. (1 ≤ c) × (c ≤ maxCost)) (within-says 1 maxCost) 0 n (b .costs) (omega arith)) (zero-beyond n (b .costs)))
       (zero-beyond n (b .ranks))
 
+pub eight-costs : (block : List ℕ) → length (blockOf block .costs) ≡ maxStations
+unfolding blockOf eightHalves
+eight-costs block = refl
+
 module _ (image block reply : List ℕ) where
   questions : List Question
   questions = replyQuestion reply ∷ imageQuestions image ++ orderQuestions (decode image) block
@@ -96,10 +100,6 @@ module _ (image block reply : List ℕ) where
   few-stations : sound image ≡ true → decode image .n ≤ maxStations
   unfolding stationCountInRange
   few-stations e = within-says 1 maxStations (decode image .n) .tells (sound-says image .tells e .n) .1
-
-  eight-costs : length (blockOf block .costs) ≡ maxStations
-  unfolding blockOf eightHalves
-  eight-costs = refl
 
   ten-say : Says (all answer (take 10 questions)) (Considered image block reply)
   unfolding all answer questions replyQuestion lengthQuestion imageQuestions blockLengthQuestion blockQuestions counterQuestions orderQuestions
@@ -114,7 +114,7 @@ module _ (image block reply : List ℕ) where
       there : all answer (take 10 questions) ≡ true → Considered image block reply
       there e =
           let passed = entries-say answer (λ q. answer q ≡ true) (λ q. record { tells = λ e. e; passes = λ e. e }) (true else 0) refl (take 10 questions) .tells e in
-          let costs = block-says (s .n) (few-stations (passed 3)) b eight-costs .tells (passed 5) in
+          let costs = block-says (s .n) (few-stations (passed 3)) b (eight-costs block) .tells (passed 5) in
           record {
             reply-whole = eqb-says (length reply) replySize .tells (passed 0);
             image-whole = eqb-says (length image) imageSize .tells (passed 1);
@@ -143,7 +143,7 @@ module _ (image block reply : List ℕ) where
             c .image-marked,
             c .image-sound,
             eqb-says (length block) blockSize .passes (c .block-whole),
-            block-says (s .n) (few-stations (c .image-sound)) b eight-costs .passes ((λ k low high. (f .cost-low k low high, f .cost-high k low high), f .cost-beyond), f .rank-beyond),
+            block-says (s .n) (few-stations (c .image-sound)) b (eight-costs block) .passes ((λ k low high. (f .cost-low k low high, f .cost-high k low high), f .cost-beyond), f .rank-beyond),
             leb-says (b .«due_in») maxDueIn .passes (f .due-in),
             leb-says (dueOf (s .clock) b) lastTick .passes (f .due-tick),
             leb-says 1 (s .next) .passes (f .ticket-left),
