@@ -1,21 +1,19 @@
 -- A sound state stays sound and in range as an arrival is accepted: a live order keeps its record but for a larger sum and larger maxima, and the questions say of the arrival what is asked of a record.
-use mathlib.Core.Path.{_≡_, refl, ap, subst, _∙_}
+use mathlib.Core.Path.{_≡_, refl, subst}
 use mathlib.Core.Logic.{inl, inr}
-use mathlib.Core.Bool.{Bool, cond}
 use mathlib.Core.List.{List, [], _∷_, map, List·Memᴰ·head, List·Memᴰ·tail}
 use Prim.Native.Nat.{ℕ, _+_, _≤_, _<_, max}
 use native.Mathlib.Omega.{arith}
 use lib.ListN.{length, length-append, length-map}
-use lib.Dec.{eqb}
 use Rattle.model.specs.declared.Block.{Block}
 use Rattle.model.specs.declared.Order.{Order}
-use Rattle.model.specs.Limits.{maxStations, maxLive, maxCost, maxDueIn, lastTicket}
+use Rattle.model.specs.Limits.{maxStations, maxCost, maxDueIn, lastTicket}
 use Rattle.model.specs.Lists.{at, total, larger}
 use Rattle.model.specs.State.{State}
 use Rattle.model.specs.DelayBound.{sumOf, maximaOf}
 use Rattle.model.specs.Admission.{dueOf, arrival, joinedBy, joinedLive, accept}
 use Rattle.schedule.specs.Valid.{_∈_, cost, Valid}
-use Rattle.schedule.specs.Accept.{Acceptable, acceptNext}
+use Rattle.schedule.specs.Accept.{acceptNext}
 use Rattle.schedule.proofs.Laws.{eqb-cases, at-larger, at-replicate}
 use Rattle.schedule.proofs.Accept.{Origin, old, new, origin, next-after, valid-accept}
 use Rattle.roundtrip.specs.InRange.{byteLimit, wordLimit, Row, InRange}

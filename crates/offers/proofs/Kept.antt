@@ -3,19 +3,14 @@ use mathlib.Core.Path.{_≡_, refl}
 use mathlib.Core.Bool.{Bool, true, false, cond}
 use mathlib.Core.List.{List}
 use Prim.Native.Nat.{ℕ}
-use lib.ListN.{length}
 use lib.Dec.{eqb}
 use borrow.Author.Tests.{ne-eqb}
-use Rattle.model.specs.Limits.{maxStations}
-use Rattle.model.specs.Bytes.{eightHalves}
-use Rattle.model.specs.State.{State}
 use Rattle.model.specs.Layout.{blockRanksAt}
 use Rattle.model.specs.Image.{decode, encode}
 use Rattle.model.specs.Questions.{replyBytes}
 use Rattle.model.specs.Admission.{blockOf, accept, quoteAnswer}
 use Rattle.model.specs.Calls.{offerNumber, offerCall, quoteCall, result}
 use Rattle.roundtrip.specs.InRange.{byteLimit, Below, Row}
-use Rattle.roundtrip.specs.SoundFacts.{SoundInRange}
 use Rattle.roundtrip.proofs.Parts.{bytes-row}
 use Rattle.roundtrip.proofs.Written.{decode-encode, encode-length, encode-bytes, encode-marked}
 use Rattle.roundtrip.proofs.Sound.{sound-gives, gives-sound}
