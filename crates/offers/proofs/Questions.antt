@@ -10,7 +10,7 @@ use lib.Dec.{eqb}
 use borrow.Author.Tests.{eqb-false, not-true}
 use Rattle.model.specs.declared.Block.{Block}
 use Rattle.model.specs.Limits.{maxStations, maxLive, maxCost, maxDueIn, lastTick}
-use Rattle.model.specs.Lists.{at, within, all}
+use Rattle.model.specs.Lists.{at, all}
 use Rattle.model.specs.Bytes.{eightHalves}
 use Rattle.model.specs.State.{State}
 use Rattle.model.specs.Layout.{imageSize, blockSize, replySize}
@@ -21,8 +21,8 @@ use Rattle.model.specs.Questions.{Question, _else_, firstNo}
 use Rattle.model.specs.Admission.{blockOf, dueOf, arrival, joinedLive, blockLengthQuestion, blockQuestions, counterQuestions, orderQuestions}
 use Rattle.model.specs.Calls.{replyQuestion, lengthQuestion, imageQuestions, offerNumber}
 use Rattle.lists.proofs.Tests.{and-both}
-use Rattle.roundtrip.proofs.Tests.{Says, leb-says, ltb-says, eqb-says, and-says, within-says, entries-say, first-say}
-use Rattle.roundtrip.proofs.Clauses.{zero-beyond}
+use Rattle.roundtrip.proofs.Tests.{Says, leb-says, ltb-says, eqb-says, and-says, within-says, entries-say}
+use Rattle.roundtrip.proofs.Clauses.{zero-beyond, costs-say}
 use Rattle.roundtrip.proofs.Facts.{sound-says}
 use Rattle.offers.specs.Considered.{Considered}
 use Rattle.offers.specs.Exact.{_⇔_}
@@ -81,13 +81,11 @@ abbrev pub Decided : ℕ → Type 0
 Decided n = (n ≡ 0) ⊎ (n ≡ 11) ⊎ (n ≡ 12)
 
 -- Question 6 of a block with eight costs.
-module _ (n : ℕ) (few : n ≤ maxStations) (b : Block) (eight : length (b .costs) ≡ maxStations) where
-  block-says : Says (costsInRange n (b .costs) && zeroBeyond n (b .costs) && zeroBeyond n (b .ranks)) ((((k : ℕ) → 1 ≤ k → k ≤ n → (1 ≤ at 0 (b .costs) k) × (at 0 (b .costs) k ≤ maxCost)) × ((k : ℕ) → n < k → at 0 (b .costs) k ≡ 0)) × ((k : ℕ) → n < k → at 0 (b .ranks) k ≡ 0))
-  unfolding costsInRange
-  block-says =
-      and-says
-      (and-says (first-say (within 1 maxCost) (λ c. (1 ≤ c) × (c ≤ maxCost)) (within-says 1 maxCost) 0 n (b .costs) (omega arith)) (zero-beyond n (b .costs)))
-      (zero-beyond n (b .ranks))
+abbrev NoneBeyond : ℕ → List ℕ → Type 0
+NoneBeyond n l = (k : ℕ) → n < k → at 0 l k ≡ 0
+
+block-says : (n : ℕ) (b : Block) → n ≤ length (b .costs) → Says (costsInRange n (b .costs) && zeroBeyond n (b .costs) && zeroBeyond n (b .ranks)) ((((k : ℕ) → 1 ≤ k → k ≤ n → (1 ≤ at 0 (b .costs) k) × (at 0 (b .costs) k ≤ maxCost)) × NoneBeyond n (b .costs)) × NoneBeyond n (b .ranks))
+block-says n b h = and-says (and-says (costs-say n (b .costs) h) (zero-beyond n (b .costs))) (zero-beyond n (b .ranks))
 
 pub eight-costs : (block : List ℕ) → length (blockOf block .costs) ≡ maxStations
 unfolding blockOf eightHalves
@@ -97,9 +95,10 @@ module _ (image block reply : List ℕ) where
   questions : List Question
   questions = replyQuestion reply ∷ imageQuestions image ++ orderQuestions (decode image) block
 
-  few-stations : sound image ≡ true → decode image .n ≤ maxStations
+  -- A sound image has no more stations than a block has costs.
+  enough-costs : sound image ≡ true → decode image .n ≤ length (blockOf block .costs)
   unfolding stationCountInRange
-  few-stations e = within-says 1 maxStations (decode image .n) .tells (sound-says image .tells e .n) .1
+  enough-costs e = rw (eight-costs block) (within-says 1 maxStations (decode image .n) .tells (sound-says image .tells e .n) .1)
 
   ten-say : Says (all answer (take 10 questions)) (Considered image block reply)
   unfolding all answer questions replyQuestion lengthQuestion imageQuestions blockLengthQuestion blockQuestions counterQuestions orderQuestions
@@ -114,7 +113,7 @@ module _ (image block reply : List ℕ) where
       there : all answer (take 10 questions) ≡ true → Considered image block reply
       there e =
           let passed = entries-say answer (λ q. answer q ≡ true) (λ q. record { tells = λ e. e; passes = λ e. e }) (true else 0) refl (take 10 questions) .tells e in
-          let costs = block-says (s .n) (few-stations (passed 3)) b (eight-costs block) .tells (passed 5) in
+          let costs = block-says (s .n) b (enough-costs (passed 3)) .tells (passed 5) in
           record {
             reply-whole = eqb-says (length reply) replySize .tells (passed 0);
             image-whole = eqb-says (length image) imageSize .tells (passed 1);
@@ -143,7 +142,7 @@ module _ (image block reply : List ℕ) where
             c .image-marked,
             c .image-sound,
             eqb-says (length block) blockSize .passes (c .block-whole),
-            block-says (s .n) (few-stations (c .image-sound)) b (eight-costs block) .passes ((λ k low high. (f .cost-low k low high, f .cost-high k low high), f .cost-beyond), f .rank-beyond),
+            block-says (s .n) b (enough-costs (c .image-sound)) .passes ((λ k low high. (f .cost-low k low high, f .cost-high k low high), f .cost-beyond), f .rank-beyond),
             leb-says (b .«due_in») maxDueIn .passes (f .due-in),
             leb-says (dueOf (s .clock) b) lastTick .passes (f .due-tick),
             leb-says 1 (s .next) .passes (f .ticket-left),
