@@ -29,7 +29,7 @@ length-larger [] ys = omega arith
 length-larger (x ∷ xs) [] = omega arith
 length-larger (x ∷ xs) (y ∷ ys) = omega (arith, length-larger xs ys)
 
--- The maxima of the live orders are bounded by what bounds their costs, and are as long as these.
+-- The maxima over the live orders are bounded by what bounds their costs, and no longer than these.
 abbrev liveMaxima : List Order → List ℕ
 liveMaxima l = maximaOf (map (λ (o : Order). o .costs) l)
 

@@ -80,7 +80,7 @@ second-fails a b = record { only = only a b; if = λ t. rw (t .0, t .1) }
 abbrev pub Decided : ℕ → Type 0
 Decided n = (n ≡ 0) ⊎ (n ≡ 11) ⊎ (n ≡ 12)
 
--- Question 6 of a block with eight costs.
+-- Question 6 as facts.
 abbrev NoneBeyond : ℕ → List ℕ → Type 0
 NoneBeyond n l = (k : ℕ) → n < k → at 0 l k ≡ 0
 
@@ -149,7 +149,7 @@ module _ (image block reply : List ℕ) where
             ltb-says (length (s .orders)) maxLive .passes (f .room),
           )
 
-  -- The answers to the last two.
+  -- What the last two give.
   abbrev pub last : ℕ
   last = let s = decode image in let b = blockOf block in lastTwo (onTime (s .n) (arrival s b)) (all (onTime (s .n)) (joinedLive s b))
 
