@@ -1,1 +1,7 @@
--- Proofs of the theorems about offers.
+-- The questions, on time or late, and the smallest margin give what an offer returns; what it leaves follows from the state with the arrival accepted.
+pub mod Questions
+pub mod Times
+pub mod Margins
+pub mod Exact
+pub mod Accept
+pub mod Kept

@@ -64,16 +64,16 @@ pub due-says : (o : Order) → Says (dueInRange o) (((o .accepted + 1 ≤ o .due
 unfolding dueInRange
 due-says o = and-says (within-says (o .accepted + 1) (o .accepted + maxDueIn) (o .due)) (leb-says (o .due) lastTick)
 
-zero-beyond : (n : ℕ) (l : List ℕ) → Says (zeroBeyond n l) ((k : ℕ) → n < k → at 0 l k ≡ 0)
+pub zero-beyond : (n : ℕ) (l : List ℕ) → Says (zeroBeyond n l) ((k : ℕ) → n < k → at 0 l k ≡ 0)
 unfolding zeroBeyond
 zero-beyond n l = beyond-says isZero (λ x. x ≡ 0) (λ x. eqb-says x 0) 0 refl n l
 
-module _ (n : ℕ) (o : Order) where
-  -- "costs in range"
-  pub costs-say : n ≤ length (o .costs) → Says (costsInRange n (o .costs)) ((k : ℕ) → 1 ≤ k → k ≤ n → (1 ≤ cost o k) × (cost o k ≤ maxCost))
-  unfolding costsInRange
-  costs-say h = first-say (within 1 maxCost) (λ c. (1 ≤ c) × (c ≤ maxCost)) (within-says 1 maxCost) 0 n (o .costs) h
+-- "costs in range"
+pub costs-say : (n : ℕ) (costs : List ℕ) → n ≤ length costs → Says (costsInRange n costs) ((k : ℕ) → 1 ≤ k → k ≤ n → (1 ≤ at 0 costs k) × (at 0 costs k ≤ maxCost))
+unfolding costsInRange
+costs-say n costs h = first-say (within 1 maxCost) (λ c. (1 ≤ c) × (c ≤ maxCost)) (within-says 1 maxCost) 0 n costs h
 
+module _ (n : ℕ) (o : Order) where
   -- "each maximum at least the own cost and at most 6,000"
   pub maxima-say : n ≤ length (o .maxima) → Says (maximaInRange n o) ((k : ℕ) → 1 ≤ k → k ≤ n → (cost o k ≤ maximum o k) × (maximum o k ≤ maxCost))
   unfolding maximaInRange

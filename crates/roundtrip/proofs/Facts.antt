@@ -104,7 +104,7 @@ module _ (s : State) (few : s .n ≤ maxStations) (o : Order) (r : OrderInRange 
   order-facts named p =
       let due = due-says o .tells (p .due) in
       let station = within-says 1 (s .n) (o .station) .tells (p .station) in
-      let cost = costs-say (s .n) o (omega (arith, r .costs .eight)) .tells (p .costs) in
+      let cost = costs-say (s .n) (o .costs) (omega (arith, r .costs .eight)) .tells (p .costs) in
       let maximum = maxima-say (s .n) o (omega (arith, r .maxima .eight)) .tells (p .maxima) in
       let beyond = fields-say (s .n) o .tells (p .beyond) in
       record {
@@ -133,7 +133,7 @@ module _ (s : State) (few : s .n ≤ maxStations) (o : Order) (r : OrderInRange 
         accepted = leb-says (o .accepted) (s .clock) .passes (g .accepted);
         due = due-says o .passes ((g .due-after, g .due-within), g .due-last);
         station = within-says 1 (s .n) (o .station) .passes (g .station-low, g .station-high);
-        costs = costs-say (s .n) o (omega (arith, r .costs .eight)) .passes (λ k low high. (g .cost-low k low high, g .cost-high k low high));
+        costs = costs-say (s .n) (o .costs) (omega (arith, r .costs .eight)) .passes (λ k low high. (g .cost-low k low high, g .cost-high k low high));
         maxima = maxima-say (s .n) o (omega (arith, r .maxima .eight)) .passes (λ k low high. (g .maximum-low k low high, g .maximum-high k low high));
         sum = leb-says (largest (o .costs)) (o .sum) .passes (g .sum);
         on-time = time-says .passes (g .on-time);

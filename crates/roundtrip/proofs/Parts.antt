@@ -115,7 +115,7 @@ module _ (p : List ℕ) (b : Below byteLimit p) where
   unfolding serviceOf
   service-in-range = record { ticket = word-below servedAt; left = half-below leftAt }
 
-  bytes-row : (i : ℕ) → Row byteLimit (eightBytes p i)
+  pub bytes-row : (i : ℕ) → Row byteLimit (eightBytes p i)
   unfolding eightBytes
   bytes-row i =
       record {

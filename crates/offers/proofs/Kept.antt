@@ -1,0 +1,58 @@
+-- What an offer and a quote leave. A done offer's image is that of the state with the arrival accepted, which is sound; the rest is read off the calls by their number.
+use mathlib.Core.Path.{_≡_, refl}
+use mathlib.Core.List.{List}
+use Prim.Native.Nat.{ℕ}
+use lib.Dec.{eqb}
+use borrow.Author.Tests.{ne-eqb}
+use Rattle.model.specs.Layout.{blockRanksAt}
+use Rattle.model.specs.Image.{decode, encode}
+use Rattle.model.specs.Questions.{replyBytes}
+use Rattle.model.specs.Admission.{blockOf, accept, quoteAnswer}
+use Rattle.model.specs.Calls.{offerNumber, offerCall, quoteCall, result}
+use Rattle.schedule.proofs.Laws.{by-cond}
+use Rattle.roundtrip.specs.InRange.{byteLimit, Below, Row}
+use Rattle.roundtrip.proofs.Parts.{bytes-row}
+use Rattle.roundtrip.proofs.Written.{decode-encode, encode-length, encode-bytes, encode-marked}
+use Rattle.roundtrip.proofs.Sound.{sound-gives, gives-sound}
+use Rattle.offers.specs.Kept.{OfferKeepsSound, DeclineLeaves, QuoteGivesOffer}
+use Rattle.offers.proofs.Questions.{eight-costs}
+use Rattle.offers.proofs.Exact.{exact}
+use Rattle.offers.proofs.Accept.{accept-sound}
+
+ranks-row : (block : List ℕ) → Below byteLimit block → Row byteLimit (blockOf block .ranks)
+unfolding blockOf
+ranks-row block bytes = bytes-row block bytes blockRanksAt
+
+done-image : (image block reply : List ℕ) → offerNumber image block reply ≡ 0 → offerCall image block reply .image ≡ encode (accept (decode image) (blockOf block))
+unfolding offerCall result
+done-image image block reply e = rw e
+
+pub offer-keeps-sound : OfferKeepsSound
+offer-keeps-sound image block reply image-bytes block-bytes done =
+    let t = exact image block reply .done .only done in
+    let before = sound-gives image image-bytes (t .0 .image-sound) in
+    let h = accept-sound (decode image) (blockOf block) before (t .0 .fitting) (t .1) (t .2) (ranks-row block block-bytes) (eight-costs block) in
+    let s = accept (decode image) (blockOf block) in
+    rw (done-image image block reply done)
+    (record {
+      whole = encode-length s (h .in-range);
+      bytes = encode-bytes s (h .in-range);
+      is-marked = encode-marked s;
+      is-sound = gives-sound s h;
+      says = decode-encode s (h .in-range);
+    })
+
+pub decline-leaves : DeclineLeaves
+unfolding offerCall result
+decline-leaves image block reply declined = rw (ne-eqb (offerNumber image block reply) 0 declined)
+
+pub quote-gives-offer : QuoteGivesOffer
+unfolding quoteCall offerCall result replyBytes quoteAnswer
+quote-gives-offer image block reply =
+    let number = offerNumber image block reply in
+    record {
+      same-number = refl;
+      image-left = by-cond (λ left. left ≡ image) (eqb number 0) refl refl;
+      unheard = λ e. rw e;
+      same-reply = λ heard. rw (ne-eqb number 1 heard);
+    }
