@@ -1,10 +1,9 @@
 -- What is asked of a state that an order is offered to, and what an offer's answer says.
 use mathlib.Core.Path.{_≡_}
 use mathlib.Core.List.{List}
-use Prim.Native.Nat.{ℕ, _≤_, _<_}
+use Prim.Native.Nat.{_<_}
 use Rattle.model.specs.declared.Block.{Block}
 use Rattle.model.specs.declared.Order.{Order}
-use Rattle.model.specs.Limits.{lastTick}
 use Rattle.model.specs.State.{State}
 use Rattle.model.specs.Questions.{Question, firstNo}
 use Rattle.model.specs.Admission.{arrival, offerAnswer, quoteAnswer}
@@ -20,11 +19,10 @@ pub record SoundPipeline (p : Pipeline) : Type 0 where
   pub whole : p ≡ padded (listed p)
   pub sound : SoundInRange (listed p)
 
--- The arrival, and that its bound tick has room in 32 bits: 33 members' largest costs of 16 bits each.
-pub record Arrives (p : Pipeline) (b : Block) (a : Order) : Type 0 where
-  pub is-arrival : a ≡ arrival (listed p) b
-  pub few : a .sum < 2162688
-  pub due : a .due ≤ lastTick
+-- The arrival, and a bound of its sum by the sizes of its parts: 33 largest costs of 16 bits.
+pub record Arrives (s : State) (b : Block) (a : Order) : Type 0 where
+  pub is-arrival : a ≡ arrival s b
+  pub sum-small : a .sum < 2162688
 
 -- The first "no" among some questions, and what offer and quote give with it.
 pub record Decides (questions : List Question) (s : State) (b : Block) (d : Decision) : Type 0 where

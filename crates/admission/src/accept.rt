@@ -12,6 +12,7 @@ ghost use Rattle.model.specs.Admission.{joinedBy};
 ghost use Rattle.model.specs.Admission as counter;
 ghost use Rattle.schedule.specs.Valid.{_∈_};
 ghost use Rattle.image.specs.Pipeline.{listed, padded};
+ghost use Rattle.offers.specs.Considered.{Fitting};
 ghost use Rattle.admission.specs.Answers.{SoundPipeline};
 use image::Pipeline;
 use image::wide;
@@ -48,7 +49,7 @@ fn ticket_after(ticket: u32) -> u32
 // Neither the arrival's ticket left as the next one nor live orders without the arrival in their sets meet the promise.
 pub fn accept(p: Pipeline, b: Block, a: Order) -> Pipeline
     requires { ⌜ SoundPipeline p ⌝ }
-    requires { ⌜ (a ≡ counter.arrival (listed p) b) × (p .live < maxLive) ⌝ }
+    requires { ⌜ Fitting (listed p) b × (a ≡ counter.arrival (listed p) b) ⌝ }
     ensures { λ r. ⌜ r ≡ padded (counter.accept (listed p) b) ⌝ }
 {
     let live = wide(p.live);

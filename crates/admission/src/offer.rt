@@ -1,12 +1,10 @@
 // Questions 6 to 12, "first "no" decides".
 ghost use mathlib.Core.Path.{_≡_};
 ghost use mathlib.Core.List.{_++_};
-ghost use Prim.Native.Nat.{_≤_, _<_};
 ghost use lib.ListN.{drop};
-ghost use Rattle.model.specs.Limits.{lastTick};
-ghost use Rattle.model.specs.Admission.{dueOf, blockQuestions, counterQuestions};
-ghost use Rattle.model.specs.Admission as counter;
+ghost use Rattle.model.specs.Admission.{blockQuestions, counterQuestions};
 ghost use Rattle.image.specs.Pipeline.{listed, unused};
+ghost use Rattle.offers.specs.Considered.{Fitting};
 ghost use Rattle.admission.specs.Answers.{SoundPipeline, Arrives, Decides, Offers};
 use super::decision::Decision;
 use super::decision::Figures;
@@ -45,8 +43,8 @@ fn wide64(x: u32) -> u64
 // in the place of the live orders' costs meets the promise.
 fn arrival(p: Pipeline, b: Block) -> Order
     requires { ⌜ SoundPipeline p ⌝ }
-    requires { ⌜ dueOf (p .clock) b ≤ lastTick ⌝ }
-    ensures { λ r. ⌜ Arrives p b r ⌝ }
+    requires { ⌜ Fitting (listed p) b ⌝ }
+    ensures { λ r. ⌜ Arrives (listed p) b r ⌝ }
 {
     let orders = p.orders;
     let ranks = b.ranks;
@@ -69,7 +67,7 @@ fn arrival(p: Pipeline, b: Block) -> Order
 // itself nor the margin of the arrival alone meets the promise.
 fn tried(p: Pipeline, b: Block, a: Order) -> Decision
     requires { ⌜ SoundPipeline p ⌝ }
-    requires { ⌜ Arrives p b a ⌝ }
+    requires { ⌜ Fitting (listed p) b × Arrives (listed p) b a ⌝ }
     ensures { λ r. ⌜ Decides (drop 3 (counterQuestions (listed p) b)) (listed p) b r ⌝ }
 {
     let n = wide32(p.n);
@@ -108,7 +106,7 @@ fn declined(decision: Decision) -> Offered
 
 fn answered(p: Pipeline, b: Block) -> Offered
     requires { ⌜ SoundPipeline p ⌝ }
-    requires { ⌜ dueOf (p .clock) b ≤ lastTick ⌝ }
+    requires { ⌜ Fitting (listed p) b ⌝ }
     ensures { λ r. ⌜ Offers (drop 3 (counterQuestions (listed p) b)) (listed p) b r ⌝ }
 {
     let a = arrival(p, b);
@@ -123,7 +121,7 @@ fn answered(p: Pipeline, b: Block) -> Offered
 // the promise.
 pub fn offer(p: Pipeline, b: Block) -> Offered
     requires { ⌜ SoundPipeline p ⌝ }
-    ensures { λ r. ⌜ Offers (blockQuestions (p .n) b ++ counterQuestions (listed p) b) (listed p) b r ⌝ }
+    ensures { λ r. ⌜ Offers (blockQuestions (listed p .n) b ++ counterQuestions (listed p) b) (listed p) b r ⌝ }
 {
     if !order_block::fits(wide32(p.n), b) {
         return declined(Decision::Costs);

@@ -46,7 +46,7 @@ maxima-length n (o ∷ l) each =
     omega (arith, length-larger (o .costs) (liveMaxima l), each o (List·Memᴰ·head refl), maxima-length n l (λ p m. each p (List·Memᴰ·tail m)))
 
 -- "0 stands for 18,000."
-due-bounds : (clock : ℕ) (b : Block) → b .«due_in» ≤ maxDueIn → (clock + 1 ≤ dueOf clock b) × (dueOf clock b ≤ clock + maxDueIn)
+pub due-bounds : (clock : ℕ) (b : Block) → b .«due_in» ≤ maxDueIn → (clock + 1 ≤ dueOf clock b) × (dueOf clock b ≤ clock + maxDueIn)
 unfolding dueOf
 due-bounds clock b h = elim (eqb-cases (b .«due_in») 0) [ inl t ↦ rw (t .0) (omega arith) | inr t ↦ rw (t .0) (omega (arith, t .1)) ]
 
@@ -60,11 +60,11 @@ module _ (s : State) (b : Block) where
       go (old p q e) = subst P e (joined p q)
       go (new e) = subst P e own
 
-  maxima-joined : (k bound : ℕ) (o : Order) → at 0 (b .costs) k ≤ bound → maximum o k ≤ bound → maximum (joinedBy b o) k ≤ bound
+  pub maxima-joined : (k bound : ℕ) (o : Order) → at 0 (b .costs) k ≤ bound → maximum o k ≤ bound → maximum (joinedBy b o) k ≤ bound
   unfolding joinedBy
   maxima-joined k bound o p q = omega (arith, at-larger (b .costs) (o .maxima) k)
 
-  maxima-own : (k bound : ℕ) → at 0 (b .costs) k ≤ bound → ((o : Order) → o ∈ s .orders → cost o k ≤ bound) → maximum (arrival s b) k ≤ bound
+  pub maxima-own : (k bound : ℕ) → at 0 (b .costs) k ≤ bound → ((o : Order) → o ∈ s .orders → cost o k ≤ bound) → maximum (arrival s b) k ≤ bound
   unfolding arrival maximaOf
   maxima-own k bound p each = omega (arith, at-larger (b .costs) (liveMaxima (s .orders)) k, maxima-most k bound (s .orders) each)
 

@@ -6,7 +6,7 @@ use mathlib.Core.List.{List, [], _∷_, _++_}
 use Prim.Native.Nat.{ℕ, _≤_, _<_}
 use native.Mathlib.Omega.{arith}
 use lib.ListN.{length, take, drop}
-use lib.Dec.{eqb}
+use lib.Dec.{leb, ltb, eqb}
 use borrow.Author.Tests.{eqb-false, not-true}
 use Rattle.model.specs.declared.Block.{Block}
 use Rattle.model.specs.Limits.{maxStations, maxLive, maxCost, maxDueIn, lastTick}
@@ -24,7 +24,7 @@ use Rattle.lists.proofs.Tests.{and-both}
 use Rattle.roundtrip.proofs.Tests.{Says, leb-says, ltb-says, eqb-says, and-says, within-says, entries-say}
 use Rattle.roundtrip.proofs.Clauses.{zero-beyond, costs-say}
 use Rattle.roundtrip.proofs.Facts.{sound-says}
-use Rattle.offers.specs.Considered.{Considered}
+use Rattle.offers.specs.Considered.{Fitting, Considered}
 use Rattle.offers.specs.Exact.{_⇔_}
 
 -- A question's answer, and whether its "no" gives another number than n.
@@ -87,6 +87,21 @@ NoneBeyond n l = (k : ℕ) → n < k → at 0 l k ≡ 0
 block-says : (n : ℕ) (b : Block) → n ≤ length (b .costs) → Says (costsInRange n (b .costs) && zeroBeyond n (b .costs) && zeroBeyond n (b .ranks)) ((((k : ℕ) → 1 ≤ k → k ≤ n → (1 ≤ at 0 (b .costs) k) × (at 0 (b .costs) k ≤ maxCost)) × NoneBeyond n (b .costs)) × NoneBeyond n (b .ranks))
 block-says n b h = and-says (and-says (costs-say n (b .costs) h) (zero-beyond n (b .costs))) (zero-beyond n (b .ranks))
 
+-- Questions 6 to 10 as facts.
+pub fitting : (s : State) (b : Block) → s .n ≤ length (b .costs) → (costsInRange (s .n) (b .costs) && zeroBeyond (s .n) (b .costs) && zeroBeyond (s .n) (b .ranks)) ≡ true → leb (b .«due_in») maxDueIn ≡ true → leb (dueOf (s .clock) b) lastTick ≡ true → leb 1 (s .next) ≡ true → ltb (length (s .orders)) maxLive ≡ true → Fitting s b
+fitting s b long block due-in due-tick ticket room =
+    let costs = block-says (s .n) b long .tells block in
+    record {
+      cost-low = λ k low high. costs .0 .0 k low high .0;
+      cost-high = λ k low high. costs .0 .0 k low high .1;
+      cost-beyond = costs .0 .1;
+      rank-beyond = costs .1;
+      due-in = leb-says (b .«due_in») maxDueIn .tells due-in;
+      due-tick = leb-says (dueOf (s .clock) b) lastTick .tells due-tick;
+      ticket-left = leb-says 1 (s .next) .tells ticket;
+      room = ltb-says (length (s .orders)) maxLive .tells room;
+    }
+
 pub eight-costs : (block : List ℕ) → length (blockOf block .costs) ≡ maxStations
 unfolding blockOf eightHalves
 eight-costs block = refl
@@ -113,24 +128,13 @@ module _ (image block reply : List ℕ) where
       there : all answer (take 10 questions) ≡ true → Considered image block reply
       there e =
           let passed = entries-say answer (λ q. answer q ≡ true) (λ q. record { tells = λ e. e; passes = λ e. e }) (true else 0) refl (take 10 questions) .tells e in
-          let costs = block-says (s .n) b (enough-costs (passed 3)) .tells (passed 5) in
           record {
             reply-whole = eqb-says (length reply) replySize .tells (passed 0);
             image-whole = eqb-says (length image) imageSize .tells (passed 1);
             image-marked = passed 2;
             image-sound = passed 3;
             block-whole = eqb-says (length block) blockSize .tells (passed 4);
-            fitting =
-                record {
-                  cost-low = λ k low high. costs .0 .0 k low high .0;
-                  cost-high = λ k low high. costs .0 .0 k low high .1;
-                  cost-beyond = costs .0 .1;
-                  rank-beyond = costs .1;
-                  due-in = leb-says (b .«due_in») maxDueIn .tells (passed 6);
-                  due-tick = leb-says (dueOf (s .clock) b) lastTick .tells (passed 7);
-                  ticket-left = leb-says 1 (s .next) .tells (passed 8);
-                  room = ltb-says (length (s .orders)) maxLive .tells (passed 9);
-                };
+            fitting = fitting s b (enough-costs (passed 3)) (passed 5) (passed 6) (passed 7) (passed 8) (passed 9);
           }
 
       back : Considered image block reply → all answer (take 10 questions) ≡ true

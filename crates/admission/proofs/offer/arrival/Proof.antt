@@ -20,7 +20,8 @@ due-tick-requires : tie.Need-due-tick-requires
 due-tick-requires c κs = search needs
 
 cast-t10 : tie.Need-cast-t10
-cast-t10 c = search needs
+unfolding listed
+cast-t10 c = record { fits = omega (arith, c .due-tick .ensures, c .before .before .before .before .before .before .before .pre .1 .due-tick) }
 
 returns : tie.Need-returns
 unfolding arrival listed interferenceOf
@@ -29,8 +30,7 @@ returns c =
     let top = c .before .before .before .before .before .before .before in
     record {
       is-arrival = rw (set .0, c .before .before .before .wide .ensures, c .due-tick .ensures);
-      few = set .1;
-      due = omega (arith, c .due-tick .ensures, top .pre .1);
+      sum-small = set .1;
     }
 
 pub arrival-spec : {M : Type 1} → statement M
