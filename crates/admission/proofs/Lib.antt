@@ -3,3 +3,4 @@ pub mod FitLaws
 pub mod PipelineLaws
 pub mod TryLaws
 pub mod OfferLaws
+pub mod AcceptLaws

@@ -1,14 +1,15 @@
 -- What a state that a sound image says gives the code that carries it: in words of the code's own fields, which are the state's.
-use mathlib.Core.Path.{_≡_, sym, ap, subst, _∙_}
+use mathlib.Core.Path.{_≡_, refl, ap, subst}
 use mathlib.Core.List.{map}
-use Prim.Native.Nat.{ℕ, _≤_, _<_}
+use Prim.Native.Nat.{ℕ, _+_, _≤_, _<_}
 use native.Mathlib.Omega.{arith}
 use lib.ListN.{length, take}
 use lib.IntN.{ℤ}
 use Rattle.model.specs.declared.Block.{Block}
 use Rattle.model.specs.declared.Order.{Order}
 use Rattle.model.specs.Limits.{maxLive}
-use Rattle.model.specs.DelayBound.{boundTick, margin}
+use Rattle.model.specs.Lists.{largest}
+use Rattle.model.specs.DelayBound.{delayBound, boundTick, margin}
 use Rattle.model.specs.Admission.{arrival, joinedBy, joinedLive, smallest}
 use Rattle.schedule.specs.Valid.{_∈_}
 use Rattle.image.specs.declared.Pipeline.{Pipeline}
@@ -36,6 +37,10 @@ module _ {p : Pipeline} (ok : SoundPipeline p) where
     unfolding listed
     live-tried live-is o m =
         rw n-is (joined-fits (listed p) b (ok .sound .facts) f o (subst (λ (k : ℕ). o ∈ take k (p .orders)) live-is m))
+
+  pub sums-fit : {b : Block} → Fitting (listed p) b → {live : ℕ} → live ≡ p .live → (o : Order) → o ∈ take live (p .orders) → largest (b .costs) + o .sum < 4294967296
+  unfolding boundTick delayBound joinedBy
+  sums-fit f e o m = omega (arith, live-tried f refl e o m .tick)
 
 -- The margins, as the code works them out.
 module _ (p : Pipeline) (b : Block) {n : ℕ} (n-is : n ≡ p .n) where

@@ -148,6 +148,21 @@ rows-more {f} {size} {l} {m} {t} {at} {j} {i} p e q h =
       long = rw (more, length-append, p .long, h, add-one, mul-suc) (omega arith);
     }
 
+-- A loop that replaces the entries of an array one by one: the first i are done.
+module _ {A : Type 0} (f : A → A) (d : A) where
+  pub replaced-read : (l : List A) (i : ℕ) → getD (map f (take i l) ++ drop i l) i d ≡ getD l i d
+  replaced-read l zero = refl
+  replaced-read [] (suc i) = refl
+  replaced-read (x ∷ l) (suc i) = replaced-read l i
+
+  replaced : (l : List A) (i : ℕ) → i < length l → set (map f (take i l) ++ drop i l) i (f (getD l i d)) ≡ map f (take (suc i) l) ++ drop (suc i) l
+  replaced [] i h = absurd (let z : ⊥ = omega (arith, h) in z)
+  replaced (x ∷ l) zero h = refl
+  replaced (x ∷ l) (suc i) h = ap (λ (m : List A). f x ∷ m) (replaced l i (le-of-suc-le-suc h))
+
+  pub replaced-next : (l m : List A) (i : ℕ) (v : A) → i < length l → m ≡ map f (take i l) ++ drop i l → v ≡ f (getD l i d) → set m i v ≡ map f (take (i + 1) l) ++ drop (i + 1) l
+  replaced-next l m i v h e q = rw (e, q, add-one i) (replaced l i h)
+
 -- What is read past the end of an array of records: a record with no entries in its arrays.
 abbrev pub past : Order
 past = record { ticket = 0; accepted = 0; due = 0; sum = 0; station = 0; ranks = []; costs = []; maxima = [] }
