@@ -2,7 +2,7 @@
  *
  * Nothing is decoded: one pass over the live records asks whether they are sound and works out, at the same time, the company of the newcomer and the margin
  * of each live order with the newcomer in its company. Offer goes over them a second time, and only when it is done, to write. Rows of eight are gone through
- * without a branch, so that gcc -O3 makes a few vector instructions of each. */
+ * without a branch, so that gcc can make a few vector instructions of each (bench/run says what it has to be told for that). */
 #include "counter.h"
 #include "layout.h"
 
@@ -15,33 +15,31 @@
 enum { TICKET = 0, ACCEPTED = 4, DUE = 8, SUM = 12, STATION = 16, RANKS = 20, COSTS = 28, MAXIMA = 44, TAIL = 60 };
 enum { BLOCK_DUE_IN = 0, BLOCK_RANKS = 4, BLOCK_COSTS = 12 };
 
-/* What may stand at each place of a row of eight in a cabinet of N stations: beyond N only 0. */
+/* What may stand at each place of a row of eight in a cabinet of N stations. */
 struct limits {
-    uint16_t least_cost[STATIONS]; /* 1, beyond N 0 */
-    uint16_t most_cost[STATIONS];  /* 6,000, beyond N 0 */
-    uint16_t counted[STATIONS];    /* all ones before N, where maxima count in a delay sum; 0 from N on */
-    uint8_t most_rank[STATIONS];   /* 255, beyond N 0 */
+    uint16_t least[STATIONS];   /* of costs: 1, beyond N 0 */
+    uint16_t most[STATIONS];    /* of costs and maxima: 6,000, beyond N 0 */
+    uint16_t counted[STATIONS]; /* all ones before N, where maxima count in a delay sum; 0 from N on */
 };
 
-/* A newcomer at the counter: what its record would hold, and what the reply would. */
+/* A newcomer at the counter. */
 struct newcomer {
-    uint32_t ticket;           /* 0 unless it is accepted, as tick */
+    uint32_t ticket; /* this and tick are 0 unless it is accepted */
+    uint32_t tick;   /* acceptance tick + delay sum */
+    int32_t margin;  /* the smallest over newcomer and live orders; 0 where document 01 gives none */
     uint32_t accepted, due, sum;
-    uint16_t largest;          /* of its own costs */
+    uint16_t largest;          /* of its costs */
     uint16_t costs[STATIONS];  /* its own */
     uint16_t maxima[STATIONS]; /* of its company */
-    uint32_t tick;             /* acceptance tick + delay sum */
-    int32_t margin;            /* the smallest over newcomer and live orders */
 };
 
-static struct limits limits_for(uint32_t n)
+static struct limits limits_for(uint16_t n)
 {
     struct limits l;
-    for (uint32_t j = 0; j < STATIONS; j++) {
-        l.least_cost[j] = j < n;
-        l.most_cost[j] = j < n ? MOST_COST : 0;
+    for (uint16_t j = 0; j < STATIONS; j++) {
+        l.least[j] = j < n ? 1 : 0;
+        l.most[j] = j < n ? MOST_COST : 0;
         l.counted[j] = j + 1 < n ? 0xffff : 0;
-        l.most_rank[j] = j < n ? 255 : 0;
     }
     return l;
 }
@@ -68,36 +66,18 @@ static inline uint32_t counted(const uint16_t maxima[STATIONS], const struct lim
     return sum;
 }
 
-static inline int ranks_fit(const uint8_t *ranks, const struct limits *l)
-{
-    uint8_t bad = 0;
-    for (int j = 0; j < STATIONS; j++)
-        bad |= ranks[j] > l->most_rank[j];
-    return !bad;
-}
-
 static inline int costs_fit(const uint16_t costs[STATIONS], const struct limits *l)
 {
     uint16_t bad = 0;
     for (int j = 0; j < STATIONS; j++)
-        bad |= (costs[j] < l->least_cost[j]) | (costs[j] > l->most_cost[j]);
-    return !bad;
+        bad |= (costs[j] < l->least[j]) | (costs[j] > l->most[j]);
+    return bad == 0;
 }
 
-static inline int maxima_fit(const uint16_t maxima[STATIONS], const uint16_t costs[STATIONS], const struct limits *l)
+/* Eight ranks as one number; those beyond N are 0. */
+static inline int ranks_fit(uint64_t ranks, uint32_t n)
 {
-    uint16_t bad = 0;
-    for (int j = 0; j < STATIONS; j++)
-        bad |= (maxima[j] < costs[j]) | (maxima[j] > l->most_cost[j]);
-    return !bad;
-}
-
-static int all_zero(const uint8_t *at, size_t length)
-{
-    uint64_t any = 0;
-    for (size_t i = 0; i < length; i += 8)
-        any |= get8(at + i);
-    return any == 0;
+    return n == STATIONS || ranks >> 8 * n == 0;
 }
 
 /* Questions 2 to 12, after 1. Along with soundness the sums are worked out, whatever the block holds; they count once 5 to 10 are passed. */
@@ -114,7 +94,7 @@ static uint32_t consider(const uint8_t *image, size_t image_len, const uint8_t *
     uint32_t n = image[5], live = image[6], clock = get4(image + 8), next = get4(image + 12);
     if (n < 1 || n > STATIONS || live > ORDERS || image[7] != 0 || clock > LAST_TICK)
         return 4;
-    const struct limits l = limits_for(n);
+    const struct limits l = limits_for((uint16_t)n);
 
     memset(c->costs, 0, sizeof c->costs);
     if (order_len == ORDER_SIZE)
@@ -123,64 +103,68 @@ static uint32_t consider(const uint8_t *image, size_t image_len, const uint8_t *
     c->sum = c->largest;
     memcpy(c->maxima, c->costs, sizeof c->maxima);
 
-    int64_t least = INT64_MAX; /* margin of a live order, with the newcomer in its company */
-    uint32_t before = 0;       /* the ticket of the record before */
-    uint32_t served = 0;       /* bit j: the entry of station j + 1 is that of a live order which is there */
+    int64_t least = INT64_MAX;      /* the smallest margin of a live order, with the newcomer in its company */
+    uint32_t before = 0;            /* the ticket of the record before */
+    uint32_t served = 0;            /* bit j: station j + 1 serves a live order that is at it */
+    uint64_t ranks = 0;             /* of all records, one over the other */
+    uint16_t flaws[STATIONS] = {0}; /* not 0 where a cost or a maximum of some record is out of range */
     const uint8_t *record = image + RECORDS_AT;
     for (uint32_t k = 0; k < live; k++, record += RECORD_SIZE) {
         uint32_t ticket = get4(record + TICKET), accepted = get4(record + ACCEPTED), due = get4(record + DUE), sum = get4(record + SUM);
         uint32_t station = get4(record + STATION); /* its byte and three zero bytes */
-        uint16_t costs[STATIONS], maxima[STATIONS], joined[STATIONS];
-        memcpy(costs, record + COSTS, sizeof costs);
-        memcpy(maxima, record + MAXIMA, sizeof maxima);
-
         if (ticket <= before || accepted > clock || due <= accepted || due - accepted > MOST_DUE_IN || due > LAST_TICK)
             return 4;
         if (station < 1 || station > n || get4(record + TAIL) != 0)
             return 4;
-        if (!ranks_fit(record + RANKS, &l) || !costs_fit(costs, &l) || !maxima_fit(maxima, costs, &l))
-            return 4;
-        int64_t room = (int64_t)(due - accepted) - sum;
-        uint16_t own = largest(costs);
-        if (sum < own || room < counted(maxima, &l))
-            return 4;
         before = ticket;
+        ranks |= get8(record + RANKS);
 
         const uint8_t *entry = image + ENTRIES_AT + ENTRY_SIZE * (station - 1);
         if (get4(entry) == ticket) {
             uint16_t left = get2(entry + 4);
-            if (left < 1 || left > costs[station - 1])
+            if (left < 1 || left > get2(record + COSTS + 2 * (station - 1)))
                 return 4;
             served |= 1u << (station - 1);
         }
 
-        c->sum += own;
+        uint16_t costs[STATIONS], maxima[STATIONS], joined[STATIONS];
+        memcpy(costs, record + COSTS, sizeof costs);
+        memcpy(maxima, record + MAXIMA, sizeof maxima);
         for (int j = 0; j < STATIONS; j++) {
+            flaws[j] |= (costs[j] < l.least[j]) | (maxima[j] < costs[j]) | (maxima[j] > l.most[j]);
             c->maxima[j] = larger(c->maxima[j], costs[j]);
             joined[j] = larger(maxima[j], c->costs[j]);
         }
+        uint16_t own = largest(costs);
+        c->sum += own;
+        int64_t room = (int64_t)(due - accepted) - sum;
         int64_t margin = room - c->largest - counted(joined, &l);
+        /* An order that is on time with the newcomer is so without it. */
+        if (sum < own || (margin < 0 && room < counted(maxima, &l)))
+            return 4;
         least = margin < least ? margin : least;
     }
-    if (next != 0 && before >= next)
+    if ((next != 0 && before >= next) || largest(flaws) != 0 || !ranks_fit(ranks, n))
         return 4;
     for (uint32_t j = 0; j < STATIONS; j++) {
         uint64_t entry = get8(image + ENTRIES_AT + ENTRY_SIZE * j);
         if (entry != 0 && ((served >> j & 1) == 0 || entry >> 48 != 0))
             return 4;
     }
-    if (!all_zero(record, (size_t)(image + IMAGE_SIZE - record)))
+    static const uint8_t unused[ORDERS * RECORD_SIZE];
+    if (memcmp(record, unused, (ORDERS - live) * RECORD_SIZE) != 0)
         return 4;
 
     if (order_len != ORDER_SIZE)
         return 5;
-    if (!costs_fit(c->costs, &l) || !ranks_fit(order + BLOCK_RANKS, &l))
+    if (!costs_fit(c->costs, &l) || !ranks_fit(get8(order + BLOCK_RANKS), n))
         return 6;
     uint32_t due_in = get4(order + BLOCK_DUE_IN);
     if (due_in > MOST_DUE_IN)
         return 7;
     if (due_in == 0)
         due_in = DEFAULT_DUE_IN;
+    c->accepted = clock;
     c->due = clock + due_in;
     if (c->due > LAST_TICK)
         return 8;
@@ -197,7 +181,6 @@ static uint32_t consider(const uint8_t *image, size_t image_len, const uint8_t *
     if (least < 0)
         return 12;
     c->ticket = next;
-    c->accepted = clock;
     c->tick = clock + delay;
     return 0;
 }

@@ -83,6 +83,10 @@ extern "C" {
  * The reply holds the number, then zeros. So after DISPATCHER_DONE it is 16 zero bytes. */
 uint32_t dispatcher_open(uint8_t *image, size_t image_len, uint32_t stations, uint8_t *reply, size_t reply_len);
 
+uint32_t dispatcher_quote(const uint8_t *image, size_t image_len, const uint8_t *order, size_t order_len, uint8_t *reply, size_t reply_len);
+
+uint32_t dispatcher_offer(uint8_t *image, size_t image_len, const uint8_t *order, size_t order_len, uint8_t *reply, size_t reply_len);
+
 #ifdef __cplusplus
 }
 #endif
