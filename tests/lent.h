@@ -45,6 +45,15 @@ static inline void hold(int holds, const char *file, int line, const char *text)
 }
 #define CHECK(condition) hold((condition), __FILE__, __LINE__, #condition)
 
+static inline void expect_number(uint32_t given, uint32_t right)
+{
+    checks++;
+    if (given != right) {
+        printf("%s: number %lu, and not %lu\n", what, (unsigned long)given, (unsigned long)right);
+        exit(1);
+    }
+}
+
 static inline void crashed(int signal)
 {
     printf("%s: signal %d: touched what is outside of the buffers, or wrote what is to be read only\n", what, signal);

@@ -94,13 +94,14 @@ static void one_call(int call, const char *name, int place, uint32_t number, uin
     lend(&image_lent, image, image_length, place);
     lend(&order_lent, order, order_length, (place + 3) % PLACES);
     lend(&reply_lent, reply_before, reply_length, PLACES - 1 - place);
+    uint8_t *at = pointer(&image_lent, odd), *order_at = pointer(&order_lent, odd), *reply_at = pointer(&reply_lent, odd);
     seal(&order_lent);
     if (call == QUOTE) {
         seal(&image_lent);
-        CHECK(dispatcher_quote(pointer(&image_lent, odd), image_length, pointer(&order_lent, odd), order_length, pointer(&reply_lent, odd), reply_length) == number);
+        expect_number(dispatcher_quote(at, image_length, order_at, order_length, reply_at, reply_length), number);
         unseal(&image_lent);
     } else {
-        CHECK(dispatcher_offer(pointer(&image_lent, odd), image_length, pointer(&order_lent, odd), order_length, pointer(&reply_lent, odd), reply_length) == number);
+        expect_number(dispatcher_offer(at, image_length, order_at, order_length, reply_at, reply_length), number);
     }
     unseal(&order_lent);
 

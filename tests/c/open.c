@@ -19,7 +19,7 @@ static void one_call(size_t image_length, uint32_t stations, size_t reply_length
     fill(reply_before, reply_length, (p + 2) % PATTERNS);
     lend(&image, image_before, image_length, place);
     lend(&reply, reply_before, reply_length, PLACES - 1 - place);
-    CHECK(dispatcher_open(pointer(&image, p % 2), image_length, stations, pointer(&reply, p % 2), reply_length) == number);
+    expect_number(dispatcher_open(pointer(&image, p % 2), image_length, stations, pointer(&reply, p % 2), reply_length), number);
 
     if (number == 1) {
         expect_bytes(&reply, reply_before, "reply");

@@ -47,11 +47,7 @@ static void try_recode(const uint8_t *image, size_t length, int sound)
         fail("the test itself: a sound image is not plain");
     for (int place = 0; place < 2; place++) {
         lend(&image_lent, image, length, place);
-        uint32_t given = probe_recode(image_lent.lent, length);
-        if (given != number) {
-            printf("%s: probe_recode gives %lu, not %lu\n", what, (unsigned long)given, (unsigned long)number);
-            exit(1);
-        }
+        expect_number(probe_recode(image_lent.lent, length), number);
         expect_bytes(&image_lent, after, "image after probe_recode");
     }
     recoded[number]++;
@@ -66,13 +62,7 @@ static void try_number(const uint8_t *image, size_t length, uint32_t number)
         for (int place = 0; place < 2; place++) {
             lend(&image_lent, image, length, place);
             lend(&reply_lent, reply, reply_lengths[r], place);
-            uint32_t given = probe_number(image_lent.lent, length, reply_lent.lent, reply_lengths[r]);
-            uint32_t right = reply_lengths[r] == 16 ? number : 1;
-            if (given != right) {
-                printf("%s: probe_number with a reply of %lu bytes gives %lu, not %lu\n", what, (unsigned long)reply_lengths[r],
-                       (unsigned long)given, (unsigned long)right);
-                exit(1);
-            }
+            expect_number(probe_number(image_lent.lent, length, reply_lent.lent, reply_lengths[r]), reply_lengths[r] == 16 ? number : 1);
             expect_bytes(&image_lent, image, "image after probe_number");
             expect_bytes(&reply_lent, reply, "reply after probe_number");
         }
