@@ -238,6 +238,10 @@ static void full_cabinet(void)
     }
     block(60000, RANKS(0), ROW(1, 1, 1));
     declined("the order after these 32", 10, 0);
+    image[6] = 33;
+    declined("live 33 of 32", 4, 0);
+    image[6] = 31;
+    declined("live 31 of 32", 4, 0);
 }
 
 /* ---- further cases ---- */
@@ -445,6 +449,27 @@ static void damaged_images(void)
     two_waiting();
     service(image, 1, 3, 1);
     declined("serves an order that is elsewhere", 4, 0);
+    two_waiting();
+    service(image, 2, 5, 200);
+    put4(image + 80, 0);
+    declined("ticket 0 beside an order in service", 4, 0);
+    for (size_t at = 30; at <= 31; at++) {
+        two_waiting();
+        service(image, 2, 5, 200);
+        image[at] = 1;
+        declined("a zero byte behind ticks to go", 4, 0);
+    }
+
+    /* N out of range with nothing else wrong, the block included: nothing is live. */
+    empty_image(0, 0, 1);
+    block(100, RANKS(0), ROW(0));
+    declined("N 0, nothing live", 4, 0);
+    block(100, RANKS(0), ROW(1, 1, 1, 1, 1, 1, 1, 1));
+    declined("N 0, nothing live, costs at all stations", 4, 0);
+    image[5] = 9;
+    declined("N 9, nothing live", 4, 0);
+    image[5] = 255;
+    declined("N 255, nothing live", 4, 0);
 
     /* Just on time is sound: the due tick 950 is 500 + 300 + 150. One tick more makes it late. */
     two_waiting();
