@@ -5,9 +5,10 @@
  *   quote and offer              libdispatcher.a against counter.c, which works on the bytes of the image.
  *
  * First both must give the same bytes on the images that they are timed on, and the codec on random bytes besides. (compare.c has compared quote and offer on
- * lists of the second simulator before.) Then both are timed in one run: rounds of the one and of the other in turn, and the best round of each counts. A machine
- * that is busy or changes its speed does the same to both. The time of either also depends, by up to a fifth, on where the stack lies beside the images, modulo
- * 4,096 bytes, and that differs from run to run. So both are timed with the stack at 64 depths, spread over 4,096 bytes, and the mean counts.
+ * lists of the second simulator before.) Then both are timed in one run: rounds of the one and of the other in turn, on each of the images in turn, and the best
+ * round of each counts. A machine that is busy or changes its speed does the same to both, and to all images. The time of either also depends, by up to a fifth,
+ * on where the stack lies beside the images, modulo 4,096 bytes, and that differs from run to run. So both are timed with the stack at 64 depths, spread over
+ * 4,096 bytes, and the mean counts.
  *
  * An offer that is done changes the image, so all copies are put back after every 8 offers. Putting back is not in the time, and the time of reading the clock
  * around the 8 offers is taken off.
@@ -65,6 +66,13 @@ static uint32_t c_offer(uint8_t *image)
 {
     return counter_offer(image, IMAGE_SIZE, order, ORDER_SIZE, reply, REPLY_SIZE);
 }
+
+/* An image to time on, with so many live orders; for quote and offer also the block of the next order, and the number that is given. */
+struct subject {
+    int live;
+    uint32_t number;
+    uint8_t image[IMAGE_SIZE], order[ORDER_SIZE];
+};
 
 /* For the codec, a sound image of 8 stations with so many live orders, four at each station in turn, one of them in service. */
 static void sound_image(uint8_t *image, int live)
@@ -198,55 +206,60 @@ static double round_at(size_t depth, work *call, const uint8_t *image, int calls
 #define DEPTHS 64
 #define ROUNDS 60
 #define CALLS 256
+#define SUBJECTS 6 /* at most */
 
 /* Nanoseconds for one call: those of the library and those of C. */
 struct times {
     double library, c;
 };
 
-/* The copies are put back after `batch` calls. */
-static struct times timed(work *library, work *c, const uint8_t *image, int batch)
+/* The copies of an image are put back after `batch` calls. */
+static void take_times(struct times mean[], work *library, work *c, const struct subject subjects[], int count, int batch)
 {
-    struct times mean = {0, 0};
+    struct times least[SUBJECTS][DEPTHS];
     double clock = reading();
-    for (int d = 0; d < DEPTHS; d++) {
-        size_t depth = (size_t)(4096 / DEPTHS * d);
-        double least_library = 1e18, least_c = 1e18;
-        for (int r = 0; r < ROUNDS; r++) {
-            double a = round_at(depth, library, image, CALLS, batch, clock);
-            double b = round_at(depth, c, image, CALLS, batch, clock);
-            least_library = a < least_library ? a : least_library;
-            least_c = b < least_c ? b : least_c;
+    for (int r = 0; r < ROUNDS; r++)
+        for (int d = 0; d < DEPTHS; d++)
+            for (int k = 0; k < count; k++) {
+                size_t depth = (size_t)(4096 / DEPTHS * d);
+                struct times *l = &least[k][d];
+                memcpy(order, subjects[k].order, ORDER_SIZE);
+                double a = round_at(depth, library, subjects[k].image, CALLS, batch, clock);
+                double b = round_at(depth, c, subjects[k].image, CALLS, batch, clock);
+                l->library = r == 0 || a < l->library ? a : l->library;
+                l->c = r == 0 || b < l->c ? b : l->c;
+            }
+    for (int k = 0; k < count; k++) {
+        mean[k].library = mean[k].c = 0;
+        for (int d = 0; d < DEPTHS; d++) {
+            mean[k].library += least[k][d].library / DEPTHS;
+            mean[k].c += least[k][d].c / DEPTHS;
         }
-        mean.library += least_library / DEPTHS;
-        mean.c += least_c / DEPTHS;
     }
-    return mean;
 }
 
 static double worst;
 
-static void print_times(int live, const char *number, struct times t)
-{
-    double ratio = t.library / t.c;
-    printf("%5d %7s %12.1f %12.1f %8.2f\n", live, number, t.library, t.c, ratio);
-    fflush(stdout);
-    worst = ratio > worst ? ratio : worst;
-}
-
-static void print_head(const char *what)
+static void print_times(const char *what, const struct times t[], const struct subject subjects[], int count)
 {
     printf("\n%s\n%5s %7s %12s %12s %8s\n", what, "live", "number", "library ns", "C ns", "ratio");
+    for (int k = 0; k < count; k++) {
+        double ratio = t[k].library / t[k].c;
+        printf("%5d %7lu %12.1f %12.1f %8.2f\n", subjects[k].live, (unsigned long)subjects[k].number, t[k].library, t[k].c, ratio);
+        worst = ratio > worst ? ratio : worst;
+    }
+    fflush(stdout);
 }
 
 static void codec(void)
 {
-    static const int lives[] = {0, 8, 16, 32};
+    static struct subject subjects[] = {{.live = 0}, {.live = 8}, {.live = 16}, {.live = 32}};
+    struct times t[4];
     uint8_t image[IMAGE_SIZE];
 
     for (int k = 0; k < 4; k++) {
-        sound_image(image, lives[k]);
-        compare(library_recode, c_recode, image, 0, "sound image with live orders:", lives[k]);
+        sound_image(subjects[k].image, subjects[k].live);
+        compare(library_recode, c_recode, subjects[k].image, 0, "sound image with live orders:", subjects[k].live);
     }
     uint64_t seed = 1, x = seed;
     for (int k = 0; k < 200; k++) {
@@ -259,31 +272,28 @@ static void codec(void)
     }
     printf("decode and encode: same bytes on sound images with 0, 8, 16 and 32 live orders and on 200 images of random bytes (seed %lu)\n",
            (unsigned long)seed);
-    print_head("decode and encode");
-    for (int k = 0; k < 4; k++) {
-        sound_image(image, lives[k]);
-        print_times(lives[k], "-", timed(library_recode, c_recode, image, CALLS));
-    }
+    take_times(t, library_recode, c_recode, subjects, 4, CALLS);
+    print_times("decode and encode", t, subjects, 4);
 }
 
 /* Quote or offer. */
 static void counter(const char *what, work *library, work *c, int batch)
 {
-    static const int lives[] = {0, 8, 16, 24, 31, 32};
-    struct times t[ORDERS + 1];
-    uint8_t image[IMAGE_SIZE];
+    static struct subject subjects[] = {{.live = 0}, {.live = 8}, {.live = 16}, {.live = 24}, {.live = 31}, {.live = 32}};
+    struct times t[6];
 
-    print_head(what);
     for (int k = 0; k < 6; k++) {
-        int live = lives[k];
-        counter_image(image, live);
-        /* Accepted, and with 32 live orders declined by 10. */
-        compare(library, c, image, live < ORDERS ? 0 : 10, what, live);
-        t[live] = timed(library, c, image, batch);
-        print_times(live, live < ORDERS ? "0" : "10", t[live]);
+        struct subject *s = &subjects[k];
+        counter_image(s->image, s->live);
+        memcpy(s->order, order, ORDER_SIZE);
+        s->number = s->live < ORDERS ? 0 : 10;
+        compare(library, c, s->image, s->number, what, s->live);
     }
-    printf("for each live order more, from 0 to 16 and from 16 to 31: library %.2f and %.2f ns, C %.2f and %.2f ns\n",
-           (t[16].library - t[0].library) / 16, (t[31].library - t[16].library) / 15, (t[16].c - t[0].c) / 16, (t[31].c - t[16].c) / 15);
+    take_times(t, library, c, subjects, 6, batch);
+    print_times(what, t, subjects, 6);
+    const struct times *t0 = &t[0], *t16 = &t[2], *t31 = &t[4];
+    printf("for each live order more, from 0 to 16 and from 16 to 31: library %.2f and %.2f ns, C %.2f and %.2f ns\n", (t16->library - t0->library) / 16,
+           (t31->library - t16->library) / 15, (t16->c - t0->c) / 16, (t31->c - t16->c) / 15);
 }
 
 int main(int argc, char **argv)
