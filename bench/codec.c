@@ -1,32 +1,5 @@
-/* Plain C for the image, to measure the library against. It is for machines that store numbers low byte first, as the image does, so that numbers and rows of
- * numbers are copied as they stand: with gcc this is faster than putting them together from bytes. */
+/* Plain C for the image, to measure the library against. Numbers and rows of numbers are copied as they stand (layout.h). */
 #include "codec.h"
-
-#include <string.h>
-
-static uint16_t get2(const uint8_t *at)
-{
-    uint16_t value;
-    memcpy(&value, at, 2);
-    return value;
-}
-
-static uint32_t get4(const uint8_t *at)
-{
-    uint32_t value;
-    memcpy(&value, at, 4);
-    return value;
-}
-
-static void put2(uint8_t *at, uint16_t value)
-{
-    memcpy(at, &value, 2);
-}
-
-static void put4(uint8_t *at, uint32_t value)
-{
-    memcpy(at, &value, 4);
-}
 
 static void decode_order(struct order *restrict order, const uint8_t *restrict at)
 {

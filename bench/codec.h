@@ -2,11 +2,7 @@
 #ifndef CODEC_H
 #define CODEC_H
 
-#include <stdint.h>
-
-#define IMAGE_SIZE 2128
-#define STATIONS 8
-#define ORDERS 32
+#include "layout.h"
 
 struct service {
     uint32_t ticket;

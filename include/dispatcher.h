@@ -4,7 +4,7 @@
  * the heap. Of the C library it uses at most memcpy, memmove, memset and memcmp.
  *
  * A cabinet is a row of 1 to 8 stations, which every order visits in turn. Its clock counts ticks of 0.1 s. Each order that is accepted gets a ticket,
- * a number from 1 upward.
+ * a number from 1 upward. It is live from then until it leaves the last station.
  *
  * THE IMAGE
  *
@@ -22,6 +22,30 @@
  *     bytes 12 to 15   a margin, signed (two's complement)
  *
  * Where the description of a call says nothing else, ticket, tick and margin are 0. What the buffer held before has no influence.
+ *
+ * THE ORDER
+ *
+ * An order is offered as a block of DISPATCHER_ORDER_SIZE bytes (28), numbers with the low byte first:
+ *
+ *     bytes  0 to  3   due-in: in how many ticks from now the order is due, 1 to 60,000; 0 stands for 18,000 (half an hour)
+ *     bytes  4 to 11   eight ranks of 1 byte, for stations 1 to 8: of the orders that wait at a station the one with the smallest rank is served
+ *                      first, and of equal ranks the one with the smaller ticket
+ *     bytes 12 to 27   eight costs of 2 bytes, for stations 1 to 8: how many ticks the order takes there, 1 to 6,000
+ *
+ * Ranks and costs of stations that the cabinet does not have are 0.
+ *
+ * ON TIME
+ *
+ * The due tick of an order is the tick at which it was accepted plus its due-in. An order is accepted only if it and every live order are then sure to be
+ * out by their due ticks, in whatever way they get into each other's way. This is tested by a sum. The company of an order is the order itself, the
+ * orders that were live when it was accepted, and those accepted while it is live, even if they are out by now. The delay sum of an order is
+ *
+ *     the largest of its station costs, for each order of the company, added up,
+ *     plus, for each station but the last, the largest cost that any order of the company has there.
+ *
+ * An order is out by its acceptance tick plus its delay sum. Its margin is its due tick minus that total: the ticks that it has to spare, below zero if it
+ * would be late. Two stations, and an order of costs 2 and 3: the delay sum is 3 + 2 = 5. With a second order of costs 1 and 2 it is 3 + 2 + 2 = 7 for
+ * both of them.
  *
  * THE NUMBER
  *
@@ -53,17 +77,48 @@
 extern "C" {
 #endif
 
-/* Lengths in bytes of an image and of a reply. */
+/* Lengths in bytes of an image, of an order block and of a reply. */
 #define DISPATCHER_IMAGE_SIZE 2128
+#define DISPATCHER_ORDER_SIZE 28
 #define DISPATCHER_REPLY_SIZE 16
 
-/* A cabinet has 1 to this many stations. */
+/* Where the fields of an order block begin. */
+#define DISPATCHER_ORDER_DUE_IN_AT 0 /* 4 bytes */
+#define DISPATCHER_ORDER_RANKS_AT 4  /* 8 ranks of 1 byte */
+#define DISPATCHER_ORDER_COSTS_AT 12 /* 8 costs of 2 bytes */
+
+/* Where the fields of a reply begin, 4 bytes each. */
+#define DISPATCHER_REPLY_NUMBER_AT 0
+#define DISPATCHER_REPLY_TICKET_AT 4
+#define DISPATCHER_REPLY_TICK_AT 8
+#define DISPATCHER_REPLY_MARGIN_AT 12 /* signed */
+
+/* A cabinet has 1 to this many stations, and at most so many live orders. */
 #define DISPATCHER_MAX_STATIONS 8
+#define DISPATCHER_MAX_LIVE 32
+
+/* A cost is 1 to so many ticks. A due-in is 1 to so many, and 0 stands for the default. */
+#define DISPATCHER_MAX_COST 6000
+#define DISPATCHER_MAX_DUE_IN 60000
+#define DISPATCHER_DEFAULT_DUE_IN 18000
+
+/* The last tick of the clock: some twelve years and eight months after the cabinet was opened. */
+#define DISPATCHER_LAST_TICK 4000000000u
 
 /* The numbers that the calls below return. */
 #define DISPATCHER_DONE 0             /* the call is done */
 #define DISPATCHER_BAD_REPLY_LENGTH 1 /* the reply is not DISPATCHER_REPLY_SIZE bytes long; it was not written */
 #define DISPATCHER_BAD_IMAGE_LENGTH 2 /* the image is not DISPATCHER_IMAGE_SIZE bytes long */
+#define DISPATCHER_BAD_MARK 3         /* these bytes are no image, or one of another version */
+#define DISPATCHER_BAD_IMAGE 4        /* the image contradicts itself: it has been damaged */
+#define DISPATCHER_BAD_ORDER_LENGTH 5 /* the order block is not DISPATCHER_ORDER_SIZE bytes long */
+#define DISPATCHER_BAD_ORDER 6        /* a cost is not 1 to DISPATCHER_MAX_COST, or a cost or rank of a station that is not there is not 0 */
+#define DISPATCHER_BAD_DUE_IN 7       /* the due-in is above DISPATCHER_MAX_DUE_IN */
+#define DISPATCHER_DUE_TOO_FAR 8      /* the due tick is above DISPATCHER_LAST_TICK */
+#define DISPATCHER_NO_TICKET 9        /* all tickets have been given; the last is 4,294,967,295 */
+#define DISPATCHER_FULL 10            /* DISPATCHER_MAX_LIVE orders are live */
+#define DISPATCHER_LATE 11            /* the order would be late itself */
+#define DISPATCHER_DELAYS_OTHERS 12   /* the order would be on time, and make a live order late */
 #define DISPATCHER_BAD_STATIONS 14    /* the number of stations is not 1 to DISPATCHER_MAX_STATIONS */
 
 /* Opens a cabinet: writes the image of a cabinet of `stations` stations whose clock stands at tick 0, which has no orders, and whose first
@@ -82,6 +137,50 @@ extern "C" {
  *
  * The reply holds the number, then zeros. So after DISPATCHER_DONE it is 16 zero bytes. */
 uint32_t dispatcher_open(uint8_t *image, size_t image_len, uint32_t stations, uint8_t *reply, size_t reply_len);
+
+/* Asks what dispatcher_offer would do with an order, and changes nothing in the image.
+ *
+ *     image, image_len   the image
+ *     order, order_len   the order block
+ *     reply, reply_len   the reply to be written
+ *
+ * Returns the number that dispatcher_offer would return, and the reply is the one that it would give, but for the ticket, which is always 0. What is
+ * quoted holds as long as the image is the same. */
+uint32_t dispatcher_quote(const uint8_t *image, size_t image_len, const uint8_t *order, size_t order_len, uint8_t *reply, size_t reply_len);
+
+/* Offers an order to the cabinet, which accepts it or declines it. An order that is accepted waits at station 1.
+ *
+ *     image, image_len   the image; if the order is accepted it is changed
+ *     order, order_len   the order block
+ *     reply, reply_len   the reply to be written
+ *
+ * Returns the first of these that fits:
+ *
+ *     DISPATCHER_BAD_REPLY_LENGTH   (1)  reply_len is not 16. Nothing was written.
+ *     DISPATCHER_BAD_IMAGE_LENGTH   (2)  image_len is not 2,128.
+ *     DISPATCHER_BAD_MARK           (3)  the image does not begin with the mark and version that dispatcher_open writes.
+ *     DISPATCHER_BAD_IMAGE          (4)  the image contradicts itself.
+ *     DISPATCHER_BAD_ORDER_LENGTH   (5)  order_len is not 28.
+ *     DISPATCHER_BAD_ORDER          (6)  a cost of a station that the cabinet has is not 1 to 6,000, or a cost or rank of one that it does not have is not 0.
+ *     DISPATCHER_BAD_DUE_IN         (7)  the due-in is above 60,000.
+ *     DISPATCHER_DUE_TOO_FAR        (8)  the due tick would be above 4,000,000,000.
+ *     DISPATCHER_NO_TICKET          (9)  no ticket is left.
+ *     DISPATCHER_FULL              (10)  32 orders are live.
+ *     DISPATCHER_LATE              (11)  the order would be late. The margin is below zero.
+ *     DISPATCHER_DELAYS_OTHERS     (12)  the order would be on time, but a live order would be late. The margin is below zero.
+ *     DISPATCHER_DONE               (0)  the order is accepted, and the image was changed.
+ *
+ * An image that dispatcher_open made, that only calls of this header have changed, and that is lent whole, never gets 2, 3 or 4.
+ *
+ * After DISPATCHER_DONE the reply holds
+ *
+ *     ticket   that of the order;
+ *     tick     its acceptance tick plus its delay sum: it is out by then if no other order is accepted meanwhile, and in any case by its due tick;
+ *     margin   the smallest margin over the order and all live orders, with the order accepted: 0 or above.
+ *
+ * After DISPATCHER_LATE and DISPATCHER_DELAYS_OTHERS the margin is that same smallest margin, as it would be with the order accepted, and ticket and tick
+ * are 0. It may be that of another order: also where the order itself is late, a live order may be later still. */
+uint32_t dispatcher_offer(uint8_t *image, size_t image_len, const uint8_t *order, size_t order_len, uint8_t *reply, size_t reply_len);
 
 #ifdef __cplusplus
 }

@@ -9,79 +9,15 @@
  *
  * probe_recode is also tried on random bytes, with a fixed seed.
  *
- * Every buffer stands twice: once with its end at a page that may not be touched and guard bytes before it, once with its start at such a page and guard bytes
- * behind. So a byte read or written outside ends the program, or is found. */
-#define _DEFAULT_SOURCE
-#include <signal.h>
-#include <stddef.h>
-#include <stdint.h>
-#include <stdio.h>
-#include <stdlib.h>
-#include <string.h>
-#include <sys/mman.h>
-#include <unistd.h>
+ * Every buffer stands twice: with its end, and with its start, at a page that may not be touched (tests/lent.h). */
+#include "../lent.h"
 
 uint32_t probe_number(const uint8_t *image, size_t image_len, const uint8_t *reply, size_t reply_len);
 uint32_t probe_recode(uint8_t *image, size_t image_len);
 
 #define SIZE 2128
-#define ROOM 8192 /* whole pages, more than any buffer needs */
-#define GUARD 0xc3
 
-/* Room of ROOM bytes between two pages that may not be touched. */
-struct area {
-    uint8_t *room;
-    uint8_t *lent;
-    size_t length;
-};
-
-static struct area image_area, reply_area;
-static char what[200];
-
-static void fail(const char *text)
-{
-    printf("%s: %s\n", what, text);
-    exit(1);
-}
-
-static void crashed(int signal)
-{
-    printf("%s: signal %d: touched what is outside of the buffers\n", what, signal);
-    fflush(stdout);
-    _exit(1);
-}
-
-static void make(struct area *a)
-{
-    size_t page = (size_t)sysconf(_SC_PAGESIZE);
-    uint8_t *whole = mmap(NULL, ROOM + 2 * page, PROT_NONE, MAP_PRIVATE | MAP_ANONYMOUS, -1, 0);
-    if (ROOM % page != 0 || whole == MAP_FAILED || mprotect(whole + page, ROOM, PROT_READ | PROT_WRITE) != 0) {
-        puts("no memory with guard pages");
-        exit(1);
-    }
-    a->room = whole + page;
-}
-
-/* Lends a copy of the bytes, at the end of the room or at its start. */
-static void lend(struct area *a, const uint8_t *bytes, size_t length, int at_end)
-{
-    memset(a->room, GUARD, ROOM);
-    a->lent = at_end ? a->room + ROOM - length : a->room;
-    a->length = length;
-    memcpy(a->lent, bytes, length);
-}
-
-/* The lent bytes are these now, and the guard bytes stand. */
-static void expect_bytes(const struct area *a, const uint8_t *bytes, const char *name)
-{
-    for (const uint8_t *at = a->room; at < a->room + ROOM; at++) {
-        int inside = at >= a->lent && at < a->lent + a->length;
-        if (*at == (inside ? bytes[at - a->lent] : GUARD))
-            continue;
-        printf("%s: %s, byte %ld is %d\n", what, name, (long)(at - a->lent), *at);
-        exit(1);
-    }
-}
+static struct buffer image_lent, reply_lent;
 
 /* What encoding makes of the fields that are read from an image: mark and version as they should be, every zero byte and every unused record zero. */
 static void plain(uint8_t *image)
@@ -109,14 +45,10 @@ static void try_recode(const uint8_t *image, size_t length, int sound)
         plain(after);
     if (sound && memcmp(after, image, length) != 0)
         fail("the test itself: a sound image is not plain");
-    for (int at_end = 0; at_end < 2; at_end++) {
-        lend(&image_area, image, length, at_end);
-        uint32_t given = probe_recode(image_area.lent, length);
-        if (given != number) {
-            printf("%s: probe_recode gives %lu, not %lu\n", what, (unsigned long)given, (unsigned long)number);
-            exit(1);
-        }
-        expect_bytes(&image_area, after, "image after probe_recode");
+    for (int place = 0; place < 2; place++) {
+        lend(&image_lent, image, length, place);
+        expect_number(probe_recode(image_lent.lent, length), number);
+        expect_bytes(&image_lent, after, "image after probe_recode");
     }
     recoded[number]++;
     changed += memcmp(after, image, length) != 0;
@@ -127,24 +59,13 @@ static void try_number(const uint8_t *image, size_t length, uint32_t number)
     static const size_t reply_lengths[] = {16, 15, 17, 0};
     static const uint8_t reply[17] = {9, 8, 7, 6, 5, 4, 3, 2, 1, 0, 255, 254, 253, 252, 251, 250, 249};
     for (size_t r = 0; r < 4; r++)
-        for (int at_end = 0; at_end < 2; at_end++) {
-            lend(&image_area, image, length, at_end);
-            lend(&reply_area, reply, reply_lengths[r], at_end);
-            uint32_t given = probe_number(image_area.lent, length, reply_area.lent, reply_lengths[r]);
-            uint32_t right = reply_lengths[r] == 16 ? number : 1;
-            if (given != right) {
-                printf("%s: probe_number with a reply of %lu bytes gives %lu, not %lu\n", what, (unsigned long)reply_lengths[r],
-                       (unsigned long)given, (unsigned long)right);
-                exit(1);
-            }
-            expect_bytes(&image_area, image, "image after probe_number");
-            expect_bytes(&reply_area, reply, "reply after probe_number");
+        for (int place = 0; place < 2; place++) {
+            lend(&image_lent, image, length, place);
+            lend(&reply_lent, reply, reply_lengths[r], place);
+            expect_number(probe_number(image_lent.lent, length, reply_lent.lent, reply_lengths[r]), reply_lengths[r] == 16 ? number : 1);
+            expect_bytes(&image_lent, image, "image after probe_number");
+            expect_bytes(&reply_lent, reply, "reply after probe_number");
         }
-}
-
-static uint32_t word(const uint8_t *at)
-{
-    return (uint32_t)at[0] | (uint32_t)at[1] << 8 | (uint32_t)at[2] << 16 | (uint32_t)at[3] << 24;
 }
 
 int main(int argc, char **argv)
@@ -156,10 +77,8 @@ int main(int argc, char **argv)
         puts("usage: probe IMAGES");
         return 1;
     }
-    make(&image_area);
-    make(&reply_area);
-    signal(SIGSEGV, crashed);
-    signal(SIGBUS, crashed);
+    make_room(&image_lent);
+    make_room(&reply_lent);
 
     while (fread(head, 1, 8, file) == 8) {
         uint32_t number = word(head), length = word(head + 4);

@@ -1,0 +1,241 @@
+/* Quote and offer in plain C, to measure the library against.
+ *
+ * Nothing is decoded: one pass over the live records asks whether they are sound and works out, at the same time, the company of the newcomer and the margin
+ * of each live order with the newcomer in its company. Offer goes over them a second time, and only when it is done, to write. Rows of eight are gone through
+ * without a branch, so that gcc can make a few vector instructions of each (bench/run says what it has to be told for that). */
+#include "counter.h"
+#include "layout.h"
+
+#define MOST_COST 6000
+#define MOST_DUE_IN 60000
+#define DEFAULT_DUE_IN 18000
+#define LAST_TICK 4000000000u
+
+/* Where the fields of a record and of an order block are. */
+enum { TICKET = 0, ACCEPTED = 4, DUE = 8, SUM = 12, STATION = 16, RANKS = 20, COSTS = 28, MAXIMA = 44, TAIL = 60 };
+enum { BLOCK_DUE_IN = 0, BLOCK_RANKS = 4, BLOCK_COSTS = 12 };
+
+/* What may stand at each place of a row of eight in a cabinet of N stations. */
+struct limits {
+    uint16_t least[STATIONS];   /* of costs: 1, beyond N 0 */
+    uint16_t most[STATIONS];    /* of costs and maxima: 6,000, beyond N 0 */
+    uint16_t counted[STATIONS]; /* all ones before N, where maxima count in a delay sum; 0 from N on */
+};
+
+/* A newcomer at the counter. */
+struct newcomer {
+    uint32_t ticket; /* this and tick are 0 unless it is accepted */
+    uint32_t tick;   /* acceptance tick + delay sum */
+    int32_t margin;  /* the smallest over newcomer and live orders; 0 where document 01 gives none */
+    uint32_t accepted, due, sum;
+    uint16_t largest;          /* of its costs */
+    uint16_t costs[STATIONS];  /* its own */
+    uint16_t maxima[STATIONS]; /* of its company */
+};
+
+static struct limits limits_for(uint16_t n)
+{
+    struct limits l;
+    for (uint16_t j = 0; j < STATIONS; j++) {
+        l.least[j] = j < n ? 1 : 0;
+        l.most[j] = j < n ? MOST_COST : 0;
+        l.counted[j] = j + 1 < n ? 0xffff : 0;
+    }
+    return l;
+}
+
+static inline uint16_t larger(uint16_t a, uint16_t b)
+{
+    return a > b ? a : b;
+}
+
+static inline uint16_t largest(const uint16_t row[STATIONS])
+{
+    uint16_t most = 0;
+    for (int j = 0; j < STATIONS; j++)
+        most = larger(most, row[j]);
+    return most;
+}
+
+/* The second part of a delay sum. */
+static inline uint32_t counted(const uint16_t maxima[STATIONS], const struct limits *l)
+{
+    uint32_t sum = 0;
+    for (int j = 0; j < STATIONS; j++)
+        sum += maxima[j] & l->counted[j];
+    return sum;
+}
+
+static inline int costs_fit(const uint16_t costs[STATIONS], const struct limits *l)
+{
+    uint16_t bad = 0;
+    for (int j = 0; j < STATIONS; j++)
+        bad |= (costs[j] < l->least[j]) | (costs[j] > l->most[j]);
+    return bad == 0;
+}
+
+/* Eight ranks as one number; those beyond N are 0. */
+static inline int ranks_fit(uint64_t ranks, uint32_t n)
+{
+    return n == STATIONS || ranks >> 8 * n == 0;
+}
+
+/* Questions 2 to 12, after 1. Along with soundness the sums are worked out, whatever the block holds; they count once 5 to 10 are passed. */
+static uint32_t consider(const uint8_t *image, size_t image_len, const uint8_t *order, size_t order_len, struct newcomer *c)
+{
+    c->ticket = 0;
+    c->tick = 0;
+    c->margin = 0;
+    if (image_len != IMAGE_SIZE)
+        return 2;
+    if (memcmp(image, "WMC\1\0", 5) != 0)
+        return 3;
+
+    uint32_t n = image[5], live = image[6], clock = get4(image + 8), next = get4(image + 12);
+    if (n < 1 || n > STATIONS || live > ORDERS || image[7] != 0 || clock > LAST_TICK)
+        return 4;
+    const struct limits l = limits_for((uint16_t)n);
+
+    memset(c->costs, 0, sizeof c->costs);
+    if (order_len == ORDER_SIZE)
+        memcpy(c->costs, order + BLOCK_COSTS, sizeof c->costs);
+    c->largest = largest(c->costs);
+    c->sum = c->largest;
+    memcpy(c->maxima, c->costs, sizeof c->maxima);
+
+    int64_t least = INT64_MAX;      /* the smallest margin of a live order, with the newcomer in its company */
+    uint32_t before = 0;            /* the ticket of the record before */
+    uint32_t served = 0;            /* bit j: station j + 1 serves a live order that is at it */
+    uint64_t ranks = 0;             /* of all records, one over the other */
+    uint16_t flaws[STATIONS] = {0}; /* not 0 where a cost or a maximum of some record is out of range */
+    const uint8_t *record = image + RECORDS_AT;
+    for (uint32_t k = 0; k < live; k++, record += RECORD_SIZE) {
+        uint32_t ticket = get4(record + TICKET), accepted = get4(record + ACCEPTED), due = get4(record + DUE), sum = get4(record + SUM);
+        uint32_t station = get4(record + STATION); /* its byte and three zero bytes */
+        if (ticket <= before || accepted > clock || due <= accepted || due - accepted > MOST_DUE_IN || due > LAST_TICK)
+            return 4;
+        if (station < 1 || station > n || get4(record + TAIL) != 0)
+            return 4;
+        before = ticket;
+        ranks |= get8(record + RANKS);
+
+        const uint8_t *entry = image + ENTRIES_AT + ENTRY_SIZE * (station - 1);
+        if (get4(entry) == ticket) {
+            uint16_t left = get2(entry + 4);
+            if (left < 1 || left > get2(record + COSTS + 2 * (station - 1)))
+                return 4;
+            served |= 1u << (station - 1);
+        }
+
+        uint16_t costs[STATIONS], maxima[STATIONS], joined[STATIONS];
+        memcpy(costs, record + COSTS, sizeof costs);
+        memcpy(maxima, record + MAXIMA, sizeof maxima);
+        for (int j = 0; j < STATIONS; j++) {
+            flaws[j] |= (costs[j] < l.least[j]) | (maxima[j] < costs[j]) | (maxima[j] > l.most[j]);
+            c->maxima[j] = larger(c->maxima[j], costs[j]);
+            joined[j] = larger(maxima[j], c->costs[j]);
+        }
+        uint16_t own = largest(costs);
+        c->sum += own;
+        int64_t room = (int64_t)(due - accepted) - sum;
+        int64_t margin = room - c->largest - counted(joined, &l);
+        /* An order that is on time with the newcomer is so without it. */
+        if (sum < own || (margin < 0 && room < counted(maxima, &l)))
+            return 4;
+        least = margin < least ? margin : least;
+    }
+    if ((next != 0 && before >= next) || largest(flaws) != 0 || !ranks_fit(ranks, n))
+        return 4;
+    for (uint32_t j = 0; j < STATIONS; j++) {
+        uint64_t entry = get8(image + ENTRIES_AT + ENTRY_SIZE * j);
+        if (entry != 0 && ((served >> j & 1) == 0 || entry >> 48 != 0))
+            return 4;
+    }
+    static const uint8_t unused[ORDERS * RECORD_SIZE];
+    if (memcmp(record, unused, (ORDERS - live) * RECORD_SIZE) != 0)
+        return 4;
+
+    if (order_len != ORDER_SIZE)
+        return 5;
+    if (!costs_fit(c->costs, &l) || !ranks_fit(get8(order + BLOCK_RANKS), n))
+        return 6;
+    uint32_t due_in = get4(order + BLOCK_DUE_IN);
+    if (due_in > MOST_DUE_IN)
+        return 7;
+    if (due_in == 0)
+        due_in = DEFAULT_DUE_IN;
+    c->accepted = clock;
+    c->due = clock + due_in;
+    if (c->due > LAST_TICK)
+        return 8;
+    if (next == 0)
+        return 9;
+    if (live == ORDERS)
+        return 10;
+
+    uint32_t delay = c->sum + counted(c->maxima, &l);
+    int64_t margin = (int64_t)due_in - delay;
+    c->margin = (int32_t)(margin < least ? margin : least);
+    if (margin < 0)
+        return 11;
+    if (least < 0)
+        return 12;
+    c->ticket = next;
+    c->tick = clock + delay;
+    return 0;
+}
+
+/* Writes the newcomer into an image that has been considered and takes it. */
+static void accept(uint8_t *image, const uint8_t *order, const struct newcomer *c)
+{
+    uint32_t live = image[6];
+    uint8_t *record = image + RECORDS_AT;
+    for (uint32_t k = 0; k < live; k++, record += RECORD_SIZE) {
+        uint16_t maxima[STATIONS];
+        memcpy(maxima, record + MAXIMA, sizeof maxima);
+        for (int j = 0; j < STATIONS; j++)
+            maxima[j] = larger(maxima[j], c->costs[j]);
+        memcpy(record + MAXIMA, maxima, sizeof maxima);
+        put4(record + SUM, get4(record + SUM) + c->largest);
+    }
+    put4(record + TICKET, c->ticket);
+    put4(record + ACCEPTED, c->accepted);
+    put4(record + DUE, c->due);
+    put4(record + SUM, c->sum);
+    record[STATION] = 1;
+    memcpy(record + RANKS, order + BLOCK_RANKS, STATIONS);
+    memcpy(record + COSTS, c->costs, sizeof c->costs);
+    memcpy(record + MAXIMA, c->maxima, sizeof c->maxima);
+    image[6] = (uint8_t)(live + 1);
+    put4(image + 12, c->ticket + 1); /* after the last ticket 0 */
+}
+
+static uint32_t answer(uint8_t *reply, uint32_t number, const struct newcomer *c)
+{
+    put4(reply, number);
+    put4(reply + 4, c->ticket);
+    put4(reply + 8, c->tick);
+    put4(reply + 12, (uint32_t)c->margin);
+    return number;
+}
+
+uint32_t counter_quote(const uint8_t *image, size_t image_len, const uint8_t *order, size_t order_len, uint8_t *reply, size_t reply_len)
+{
+    struct newcomer c;
+    if (reply_len != REPLY_SIZE)
+        return 1;
+    uint32_t number = consider(image, image_len, order, order_len, &c);
+    c.ticket = 0;
+    return answer(reply, number, &c);
+}
+
+uint32_t counter_offer(uint8_t *image, size_t image_len, const uint8_t *order, size_t order_len, uint8_t *reply, size_t reply_len)
+{
+    struct newcomer c;
+    if (reply_len != REPLY_SIZE)
+        return 1;
+    uint32_t number = consider(image, image_len, order, order_len, &c);
+    if (number == 0)
+        accept(image, order, &c);
+    return answer(reply, number, &c);
+}

@@ -1,0 +1,52 @@
+/* Sizes of document 01's image, and numbers in its bytes. For machines that store numbers low byte first, as the image does, so that a number is copied as it
+ * stands: with gcc this is faster than putting it together from bytes. */
+#ifndef LAYOUT_H
+#define LAYOUT_H
+
+#include <stdint.h>
+#include <string.h>
+
+#define IMAGE_SIZE 2128
+#define ORDER_SIZE 28
+#define REPLY_SIZE 16
+#define STATIONS 8
+#define ORDERS 32
+
+/* Where the station entries and the records begin, and how long each of them is. */
+#define ENTRIES_AT 16
+#define ENTRY_SIZE 8
+#define RECORDS_AT 80
+#define RECORD_SIZE 64
+
+static inline uint16_t get2(const uint8_t *at)
+{
+    uint16_t value;
+    memcpy(&value, at, 2);
+    return value;
+}
+
+static inline uint32_t get4(const uint8_t *at)
+{
+    uint32_t value;
+    memcpy(&value, at, 4);
+    return value;
+}
+
+static inline uint64_t get8(const uint8_t *at)
+{
+    uint64_t value;
+    memcpy(&value, at, 8);
+    return value;
+}
+
+static inline void put2(uint8_t *at, uint16_t value)
+{
+    memcpy(at, &value, 2);
+}
+
+static inline void put4(uint8_t *at, uint32_t value)
+{
+    memcpy(at, &value, 4);
+}
+
+#endif

@@ -1,0 +1,604 @@
+/* dispatcher_quote and dispatcher_offer as a C program calls them, through include/dispatcher.h and libdispatcher.a.
+ *
+ * It compares with document 01: its counter examples as far as they need no advance, every number from 1 to 12 and the order of the questions, the bytes of
+ * reply and image after each call, and what is left alone. What to expect is worked out by hand from document 01, written out here and taken from nowhere
+ * else. Each pair of a quote and an offer is made with the buffers at several places. The image of a quote and the order block are read only. The first check that
+ * does not hold ends the program with what was called. */
+#include "../lent.h"
+
+#include "dispatcher.h"
+
+/* What the next calls are given, and the image that a done offer is to leave. */
+static uint8_t image[ROOM / 2], order[ROOM / 2], after[2128];
+static size_t image_length, order_length, reply_length;
+
+static struct buffer image_lent, order_lent, reply_lent;
+static unsigned long seen[2][13]; /* quotes and offers, by number */
+
+/* ---- image and order block, by document 01's tables ---- */
+
+#define RANKS(...) (const uint8_t[8]){__VA_ARGS__}
+#define ROW(...) (const uint16_t[8]){__VA_ARGS__}
+
+static void put_row(uint8_t *at, const uint16_t *row)
+{
+    for (int j = 0; j < 8; j++)
+        put2(at + 2 * j, row[j]);
+}
+
+/* An image with nothing live and all stations idle. */
+static void empty_image(uint8_t n, uint32_t clock, uint32_t next)
+{
+    memset(image, 0, sizeof image);
+    image_length = 2128;
+    memcpy(image, "WMC", 3);
+    put2(image + 3, 1);
+    image[5] = n;
+    put4(image + 8, clock);
+    put4(image + 12, next);
+    reply_length = 16;
+}
+
+/* "a fresh image (clock 0, next ticket 1)"; open.c asks whether dispatcher_open gives it. */
+static void fresh_image(uint8_t n)
+{
+    empty_image(n, 0, 1);
+}
+
+static void counts(uint8_t *to, uint8_t live, uint32_t next)
+{
+    to[6] = live;
+    put4(to + 12, next);
+}
+
+static void service(uint8_t *to, int station, uint32_t ticket, uint32_t left)
+{
+    put4(to + 16 + 8 * (station - 1), ticket);
+    put2(to + 16 + 8 * (station - 1) + 4, left);
+}
+
+static void record(uint8_t *to, int k, uint32_t ticket, uint32_t accepted, uint32_t due, uint32_t sum, uint8_t station, const uint8_t *ranks, const uint16_t *costs,
+                   const uint16_t *maxima)
+{
+    uint8_t *at = to + 80 + 64 * k;
+    put4(at, ticket);
+    put4(at + 4, accepted);
+    put4(at + 8, due);
+    put4(at + 12, sum);
+    at[16] = station;
+    memcpy(at + 20, ranks, 8);
+    put_row(at + 28, costs);
+    put_row(at + 44, maxima);
+}
+
+static void block(uint32_t due_in, const uint8_t *ranks, const uint16_t *costs)
+{
+    memset(order, 0, sizeof order);
+    order_length = 28;
+    put4(order, due_in);
+    memcpy(order + 4, ranks, 8);
+    put_row(order + 12, costs);
+}
+
+/* ---- calls ---- */
+
+enum { QUOTE, OFFER };
+
+static void one_call(int call, const char *name, int place, uint32_t number, uint32_t ticket, uint32_t tick, int32_t margin)
+{
+    uint8_t reply_before[ROOM / 2], expected[16];
+    int odd = place % 2;
+    sprintf(what, "%s: %s, image of %lu bytes, order of %lu, reply of %lu, place %d", call == QUOTE ? "quote" : "offer", name, (unsigned long)image_length,
+            (unsigned long)order_length, (unsigned long)reply_length, place);
+    fill(reply_before, reply_length, place % PATTERNS);
+    lend(&image_lent, image, image_length, place);
+    lend(&order_lent, order, order_length, (place + 3) % PLACES);
+    lend(&reply_lent, reply_before, reply_length, PLACES - 1 - place);
+    uint8_t *at = pointer(&image_lent, odd), *order_at = pointer(&order_lent, odd), *reply_at = pointer(&reply_lent, odd);
+    seal(&order_lent);
+    if (call == QUOTE) {
+        seal(&image_lent);
+        expect_number(dispatcher_quote(at, image_length, order_at, order_length, reply_at, reply_length), number);
+        unseal(&image_lent);
+    } else {
+        expect_number(dispatcher_offer(at, image_length, order_at, order_length, reply_at, reply_length), number);
+    }
+    unseal(&order_lent);
+
+    /* "The reply holds number (0 for done), ticket, tick, margin (signed), 4 bytes each"; "After 1 the reply is untouched." */
+    put4(expected, number);
+    put4(expected + 4, call == QUOTE ? 0 : ticket);
+    put4(expected + 8, tick);
+    put4(expected + 12, (uint32_t)margin);
+    expect_bytes(&reply_lent, number == 1 ? reply_before : expected, "reply");
+    expect_bytes(&image_lent, call == OFFER && number == 0 ? after : image, "image");
+    expect_bytes(&order_lent, order, "order");
+    seen[call][number]++;
+}
+
+static void both_calls(const char *name, int place, uint32_t number, uint32_t ticket, uint32_t tick, int32_t margin)
+{
+    one_call(QUOTE, name, place, number, ticket, tick, margin);
+    one_call(OFFER, name, place, number, ticket, tick, margin);
+}
+
+/* Declined: "ticket and tick are 0, margin is 0 save for 11 and 12". */
+static void declined(const char *name, uint32_t number, int32_t margin)
+{
+    for (int place = 0; place < PLACES; place++)
+        both_calls(name, place, number, 0, 0, margin);
+}
+
+/* Accepted, and `after` is the image from now on. */
+static void accepted(const char *name, uint32_t ticket, uint32_t tick, int32_t margin)
+{
+    for (int place = 0; place < PLACES; place++)
+        both_calls(name, place, 0, ticket, tick, margin);
+    memcpy(image, after, 2128);
+}
+
+/* `after` begins as the image is. */
+static void begin_after(uint8_t live, uint32_t next)
+{
+    memcpy(after, image, 2128);
+    counts(after, live, next);
+}
+
+/* ---- document 01's counter examples ---- */
+
+/* "N = 2 unless named; X costs 2, 3 with rank 0; Y costs 1, 2 with rank 5." Here x and y are their ranks at both stations. */
+static void x_is_accepted(uint8_t x, uint32_t due_in, int32_t margin)
+{
+    fresh_image(2);
+    block(due_in, RANKS(x, x), ROW(2, 3));
+    begin_after(1, 2);
+    record(after, 0, 1, 0, due_in, 3, 1, RANKS(x, x), ROW(2, 3), ROW(2, 3));
+    accepted("X at 0", 1, 5, margin);
+}
+
+/* The largest costs are 3 and 2, the largest at station 1 is 2: both have the delay sum 3 + 2 + 2. */
+static void then_y(uint8_t x, uint8_t y)
+{
+    block(7, RANKS(y, y), ROW(1, 2));
+    begin_after(2, 3);
+    record(after, 0, 1, 0, 20, 5, 1, RANKS(x, x), ROW(2, 3), ROW(2, 3));
+    record(after, 1, 2, 0, 7, 5, 1, RANKS(y, y), ROW(1, 2), ROW(2, 3));
+    accepted("then Y at 0, due-in 7", 2, 7, 0);
+}
+
+static void two_orders(void)
+{
+    /* "X, due-in 20, at 0: ticket 1, tick 5, margin 15." */
+    x_is_accepted(0, 20, 15);
+    /* "Y with due-in 6 instead: 11, margin -1." */
+    block(6, RANKS(5, 5), ROW(1, 2));
+    declined("Y with due-in 6", 11, -1);
+    /* "then Y at 0, due-in 7: ticket 2, tick 7, margin 0." */
+    then_y(0, 5);
+    /* "X with due-in 6, then Y with due-in 100: 12, margin -1." */
+    x_is_accepted(0, 6, 1);
+    block(100, RANKS(5, 5), ROW(1, 2));
+    declined("Y after X with due-in 6", 12, -1);
+    /* "as the first two but X rank 5, Y rank 0" */
+    x_is_accepted(5, 20, 15);
+    then_y(5, 0);
+}
+
+static void one_station(void)
+{
+    /* "N = 1, cost 4: due-in 4 accepted, 3 gets 11." */
+    fresh_image(1);
+    block(3, RANKS(0), ROW(4));
+    declined("N = 1, cost 4, due-in 3", 11, -1);
+    block(4, RANKS(0), ROW(4));
+    begin_after(1, 2);
+    record(after, 0, 1, 0, 4, 4, 1, RANKS(0), ROW(4), ROW(4));
+    accepted("N = 1, cost 4, due-in 4", 1, 4, 0);
+}
+
+static void eight_stations(void)
+{
+    const uint16_t *costs = ROW(6000, 6000, 6000, 6000, 6000, 6000, 6000, 6000);
+    /* "N = 8, all costs 6,000: delay sum 48,000; due-in 0 gets 11." 0 stands for 18,000. */
+    fresh_image(8);
+    block(0, RANKS(0), costs);
+    declined("N = 8, costs 6,000, due-in 0", 11, 18000 - 48000);
+    block(47999, RANKS(0), costs);
+    declined("N = 8, costs 6,000, due-in 47,999", 11, -1);
+    block(48000, RANKS(1, 2, 3, 4, 5, 6, 7, 255), costs);
+    begin_after(1, 2);
+    record(after, 0, 1, 0, 48000, 6000, 1, RANKS(1, 2, 3, 4, 5, 6, 7, 255), costs, costs);
+    accepted("N = 8, costs 6,000, due-in 48,000", 1, 48000, 0);
+}
+
+static void full_cabinet(void)
+{
+    /* "N = 1, 32 orders of cost 1, due-in 60,000; the next gets 10". After k of them each has the sum k. */
+    fresh_image(1);
+    for (uint32_t k = 1; k <= 32; k++) {
+        block(60000, RANKS((uint8_t)k), ROW(1));
+        begin_after((uint8_t)k, k + 1);
+        for (uint32_t i = 1; i <= k; i++)
+            record(after, (int)i - 1, i, 0, 60000, k, 1, RANKS((uint8_t)i), ROW(1), ROW(1));
+        accepted("32 orders of cost 1", k, k, (int32_t)(60000 - k));
+    }
+    block(60000, RANKS(33), ROW(1));
+    declined("the order after 32", 10, 0);
+
+    /* N = 3, order k costs k, 1, 1: after k of them the sums are 1 + .. + k, the largest costs at stations 1 and 2 are k and 1. */
+    fresh_image(3);
+    for (uint32_t k = 1; k <= 32; k++) {
+        uint32_t sum = k * (k + 1) / 2, delay = sum + k + 1;
+        block(20000 + k, RANKS(1, 0, (uint8_t)k), ROW((uint16_t)k, 1, 1));
+        begin_after((uint8_t)k, k + 1);
+        for (uint32_t i = 1; i <= k; i++)
+            record(after, (int)i - 1, i, 0, 20000 + i, sum, 1, RANKS(1, 0, (uint8_t)i), ROW((uint16_t)i, 1, 1), ROW((uint16_t)k, 1, 1));
+        /* The first of them is due first. */
+        accepted("order k of costs k, 1, 1", k, delay, (int32_t)(20001 - delay));
+    }
+    block(60000, RANKS(0), ROW(1, 1, 1));
+    declined("the order after these 32", 10, 0);
+    image[6] = 33;
+    declined("live 33 of 32", 4, 0);
+    image[6] = 31;
+    declined("live 31 of 32", 4, 0);
+}
+
+/* ---- further cases ---- */
+
+/* One live order of another history: its stored sum and maxima are above its own costs, it is at station 2 and in service there. Station 2 is the last. */
+static void of_another_history(void)
+{
+    empty_image(2, 150, 90);
+    counts(image, 1, 90);
+    record(image, 0, 41, 100, 2100, 1000, 2, RANKS(3, 4), ROW(10, 20), ROW(500, 600));
+    service(image, 2, 41, 7);
+
+    /* The newcomer's company has the live order's own costs: 30 + 20 + 30 = 80. The live order's sum is then 1,030, and 500 for station 1. */
+    block(1000, RANKS(8, 9), ROW(30, 5));
+    begin_after(2, 91);
+    record(after, 0, 41, 100, 2100, 1030, 2, RANKS(3, 4), ROW(10, 20), ROW(500, 600));
+    record(after, 1, 90, 150, 1150, 50, 1, RANKS(8, 9), ROW(30, 5), ROW(30, 20));
+    accepted("a newcomer beside an order of another history", 90, 230, 470);
+
+    /* A third: 6 + 20 + 30 and 30 for the first station are 86. The first order: 1,036 + 500, margin 464. The second: 56 + 30 = 86 of 1,000. */
+    block(86, RANKS(0, 0), ROW(6, 3));
+    begin_after(3, 92);
+    record(after, 0, 41, 100, 2100, 1036, 2, RANKS(3, 4), ROW(10, 20), ROW(500, 600));
+    record(after, 1, 90, 150, 1150, 56, 1, RANKS(8, 9), ROW(30, 5), ROW(30, 20));
+    record(after, 2, 91, 150, 236, 56, 1, RANKS(0, 0), ROW(6, 3), ROW(30, 20));
+    accepted("a third, with no tick to spare", 91, 236, 0);
+
+    /* Costs 700, 650: the first has 1,736 + 700 = 2,436 of 2,000, the second 756 + 700 of 1,000, the third 756 + 700 of 86, the newcomer 756 + 700. */
+    block(1456, RANKS(0, 0), ROW(700, 650));
+    declined("a fourth that is on time and delays three", 12, 86 - 1456);
+    block(1455, RANKS(0, 0), ROW(700, 650));
+    declined("a fourth that is late by one tick, while others would be later", 11, 86 - 1456);
+    block(1, RANKS(0, 0), ROW(700, 650));
+    declined("a fourth that is the latest", 11, 1 - 1456);
+}
+
+/* The largest cost of the newcomer is at its last station, and raises the maxima of a live order there, which do not count. */
+static void last_station(void)
+{
+    fresh_image(3);
+    block(100, RANKS(1, 1, 1), ROW(5, 4, 3));
+    begin_after(1, 2);
+    record(after, 0, 1, 0, 100, 5, 1, RANKS(1, 1, 1), ROW(5, 4, 3), ROW(5, 4, 3));
+    accepted("costs 5, 4, 3", 1, 14, 86);
+    /* 5 + 50, and 5 + 4 for the first two stations: 64 for both. */
+    block(70, RANKS(0, 0, 0), ROW(1, 1, 50));
+    begin_after(2, 3);
+    record(after, 0, 1, 0, 100, 55, 1, RANKS(1, 1, 1), ROW(5, 4, 3), ROW(5, 4, 50));
+    record(after, 1, 2, 0, 70, 55, 1, RANKS(0, 0, 0), ROW(1, 1, 50), ROW(5, 4, 50));
+    accepted("then costs 1, 1, 50", 2, 64, 6);
+}
+
+static void ends_of_ranges(void)
+{
+    static const uint32_t due_ins[] = {60001, 65536, 78000, 0x80000000u, 0x80000001u, 0xffffffffu};
+    static const uint32_t costs[] = {0, 6001, 0x8001, 0xffff};
+    for (size_t i = 0; i < sizeof due_ins / sizeof *due_ins; i++) {
+        fresh_image(2);
+        block(due_ins[i], RANKS(0), ROW(1, 1));
+        declined("due-in out of range", 7, 0);
+    }
+    for (uint8_t n = 1; n <= 8; n++) {
+        uint16_t row[8] = {0};
+        for (int j = 0; j < n; j++)
+            row[j] = 6000;
+        fresh_image(n);
+        for (int j = 0; j < 8; j++) {
+            block(60000, RANKS(0), row);
+            for (size_t i = 0; i < sizeof costs / sizeof *costs; i++)
+                if (j < n || costs[i] != 0) {
+                    put2(order + 12 + 2 * j, costs[i]);
+                    declined("a cost out of range", 6, 0);
+                }
+            block(60000, RANKS(0), row);
+            if (j >= n) {
+                order[12 + 2 * j] = 1;
+                declined("a cost of 1 beyond N", 6, 0);
+                order[12 + 2 * j] = 0;
+                order[12 + 2 * j + 1] = 1;
+                declined("a cost of 256 beyond N", 6, 0);
+                order[12 + 2 * j + 1] = 0;
+                order[4 + j] = 1;
+                declined("a rank beyond N", 6, 0);
+            }
+        }
+    }
+    /* The clock's end: a due tick of 4,000,000,000 is the last. 0 stands for 18,000. */
+    empty_image(1, 4000000000u - 60000, 7);
+    block(60000, RANKS(0), ROW(2));
+    begin_after(1, 8);
+    record(after, 0, 7, 3999940000u, 4000000000u, 2, 1, RANKS(0), ROW(2), ROW(2));
+    accepted("due at the clock's end", 7, 3999940002u, 59998);
+    empty_image(1, 4000000000u - 59999, 7);
+    declined("due one tick after the clock's end", 8, 0);
+    empty_image(1, 4000000000u - 18000, 7);
+    block(0, RANKS(0), ROW(2));
+    begin_after(1, 8);
+    record(after, 0, 7, 3999982000u, 4000000000u, 2, 1, RANKS(0), ROW(2), ROW(2));
+    accepted("due-in 0 means 18,000", 7, 3999982002u, 17998);
+    empty_image(1, 4000000000u - 17999, 7);
+    declined("due-in 0, one tick after the clock's end", 8, 0);
+    empty_image(1, 4000000000u, 7);
+    block(1, RANKS(0), ROW(1));
+    declined("the clock's last tick", 8, 0);
+    /* The last ticket is 4,294,967,295, and after it none is left. */
+    empty_image(1, 10, 4294967294u);
+    block(20, RANKS(0), ROW(2));
+    begin_after(1, 4294967295u);
+    record(after, 0, 4294967294u, 10, 30, 2, 1, RANKS(0), ROW(2), ROW(2));
+    accepted("the last ticket but one", 4294967294u, 12, 18);
+    begin_after(2, 0);
+    record(after, 0, 4294967294u, 10, 30, 4, 1, RANKS(0), ROW(2), ROW(2));
+    record(after, 1, 4294967295u, 10, 30, 4, 1, RANKS(0), ROW(2), ROW(2));
+    accepted("the last ticket", 4294967295u, 14, 16);
+    declined("no ticket left", 9, 0);
+}
+
+static void lengths(void)
+{
+    static const size_t reply_lengths[] = {0, 1, 15, 17, 32, 2128}, image_lengths[] = {0, 1, 16, 2127, 2129, 3152}, order_lengths[] = {0, 1, 27, 29, 56, 224};
+    fresh_image(2);
+    block(20, RANKS(0), ROW(2, 3));
+    for (size_t i = 0; i < 6; i++) {
+        reply_length = reply_lengths[i];
+        declined("length of the reply", 1, 0);
+        reply_length = 16;
+        image_length = image_lengths[i];
+        declined("length of the image", 2, 0);
+        image_length = 2128;
+        order_length = order_lengths[i];
+        declined("length of the order", 5, 0);
+        order_length = 28;
+    }
+}
+
+/* A sound image: tickets 3 and 5, accepted at 500, waiting at station 2. And an order for it. */
+static void two_waiting(void)
+{
+    empty_image(2, 1000, 6);
+    counts(image, 2, 6);
+    record(image, 0, 3, 500, 50500, 300, 2, RANKS(0), ROW(100, 200), ROW(150, 250));
+    record(image, 1, 5, 500, 50500, 300, 2, RANKS(0), ROW(100, 200), ROW(150, 250));
+    block(60000, RANKS(1, 1), ROW(1, 1));
+}
+
+static void damaged_images(void)
+{
+    /* Each breaks what document 01 says of a sound image: `size` bytes at `at` become `value`. */
+    static const struct {
+        const char *name;
+        size_t at, size;
+        uint32_t value;
+    } breaks[] = {
+        {"N 0", 5, 1, 0}, {"N 1, orders at station 2", 5, 1, 1}, {"N 9", 5, 1, 9}, {"N 255", 5, 1, 255},
+        {"live 1 of 2", 6, 1, 1}, {"live 3 of 2", 6, 1, 3}, {"live 33", 6, 1, 33}, {"live 255", 6, 1, 255},
+        {"clock beyond its end", 8, 4, 4000000001u}, {"clock all ones", 8, 4, 0xffffffffu}, {"clock before acceptance", 8, 4, 499},
+        {"next ticket that of the last order", 12, 4, 5}, {"next ticket below", 12, 4, 4}, {"next ticket 1", 12, 4, 1},
+        {"ticket 0", 80, 4, 0}, {"tickets alike", 80, 4, 5}, {"tickets falling", 144, 4, 2}, {"ticket not below the next", 144, 4, 6},
+        {"accepted in the next tick", 84, 4, 1001}, {"acceptance all ones", 84, 4, 0xffffffffu},
+        {"due 60,001 after acceptance", 88, 4, 60501}, {"due at acceptance", 88, 4, 500}, {"due before acceptance", 88, 4, 499}, {"due 0", 88, 4, 0},
+        {"late by one tick", 88, 4, 949}, {"late by one tick, second order", 152, 4, 949}, {"due beyond the clock's end", 88, 4, 4000000001u},
+        {"sum below the largest cost", 92, 4, 199}, {"sum 0", 92, 4, 0}, {"sum too large for the due tick", 92, 4, 49851}, {"sum all ones", 92, 4, 0xffffffffu},
+        {"sum that wraps with acceptance", 92, 4, 0xfffffe0cu}, {"sum that wraps with the maxima", 92, 4, 0xffffff6au},
+        {"station 0", 96, 1, 0}, {"station 3", 96, 1, 3}, {"station 8", 96, 1, 8}, {"station 255", 160, 1, 255},
+        {"rank beyond N", 102, 1, 1}, {"rank beyond N, last", 171, 1, 255},
+        {"cost 0", 108, 2, 0}, {"cost 0 at the last station", 110, 2, 0}, {"cost above the maximum", 108, 2, 151}, {"cost 6,001", 108, 2, 6001},
+        {"cost beyond N", 112, 2, 1}, {"cost beyond N, last", 186, 2, 0x100},
+        {"maximum below the cost", 124, 2, 99}, {"maximum below the cost, last station", 126, 2, 199}, {"maximum 6,001", 124, 2, 6001},
+        {"maximum 6,001 at the last station", 126, 2, 6001}, {"maximum beyond N", 128, 2, 1}, {"maximum beyond N, last", 202, 2, 0x100},
+        {"idle with ticks to go", 28, 2, 1}, {"ticket in service and no ticks to go", 24, 4, 3}, {"ticket in service beyond N", 32, 4, 3},
+        {"ticks to go beyond N", 76, 2, 1},
+    };
+    two_waiting();
+    /* As it is: 1 + 200 + 200 and 100 for station 1 are 501. The live orders have 301 + 150 of 50,000. */
+    begin_after(3, 7);
+    record(after, 0, 3, 500, 50500, 301, 2, RANKS(0), ROW(100, 200), ROW(150, 250));
+    record(after, 1, 5, 500, 50500, 301, 2, RANKS(0), ROW(100, 200), ROW(150, 250));
+    record(after, 2, 6, 1000, 61000, 401, 1, RANKS(1, 1), ROW(1, 1), ROW(100, 200));
+    accepted("two waiting orders", 6, 1501, 49549);
+
+    for (size_t i = 0; i < sizeof breaks / sizeof *breaks; i++) {
+        two_waiting();
+        for (size_t k = 0; k < breaks[i].size; k++)
+            image[breaks[i].at + k] = (uint8_t)(breaks[i].value >> 8 * k);
+        declined(breaks[i].name, 4, 0);
+    }
+
+    /* Stations that serve: a live order that is there, with 1 to its cost there (200) to go. */
+    for (uint32_t left = 0; left <= 201; left++) {
+        two_waiting();
+        service(image, 2, 5, left);
+        if (left >= 1 && left <= 200) {
+            begin_after(3, 7);
+            record(after, 0, 3, 500, 50500, 301, 2, RANKS(0), ROW(100, 200), ROW(150, 250));
+            record(after, 1, 5, 500, 50500, 301, 2, RANKS(0), ROW(100, 200), ROW(150, 250));
+            record(after, 2, 6, 1000, 61000, 401, 1, RANKS(1, 1), ROW(1, 1), ROW(100, 200));
+            both_calls("station 2 serves", (int)(left % PLACES), 0, 6, 1501, 49549);
+        } else {
+            declined("ticks to go out of range", 4, 0);
+        }
+    }
+    two_waiting();
+    service(image, 2, 4, 1);
+    declined("serves a ticket that is not live", 4, 0);
+    two_waiting();
+    service(image, 1, 3, 1);
+    declined("serves an order that is elsewhere", 4, 0);
+    two_waiting();
+    service(image, 2, 5, 200);
+    put4(image + 80, 0);
+    declined("ticket 0 beside an order in service", 4, 0);
+    for (size_t at = 30; at <= 31; at++) {
+        two_waiting();
+        service(image, 2, 5, 200);
+        image[at] = 1;
+        declined("a zero byte behind ticks to go", 4, 0);
+    }
+
+    /* N out of range with nothing else wrong, the block included: nothing is live. */
+    empty_image(0, 0, 1);
+    block(100, RANKS(0), ROW(0));
+    declined("N 0, nothing live", 4, 0);
+    block(100, RANKS(0), ROW(1, 1, 1, 1, 1, 1, 1, 1));
+    declined("N 0, nothing live, costs at all stations", 4, 0);
+    image[5] = 9;
+    declined("N 9, nothing live", 4, 0);
+    image[5] = 255;
+    declined("N 255, nothing live", 4, 0);
+
+    /* Just on time is sound: the due tick 950 is 500 + 300 + 150. One tick more makes it late. */
+    two_waiting();
+    put4(image + 88, 950);
+    declined("an order with no tick to spare", 12, -1);
+
+    /* A due tick beyond the clock's end, which is otherwise in order. */
+    two_waiting();
+    put4(image + 8, 4000000000u);
+    put4(image + 84, 3999960000u);
+    put4(image + 88, 4000000001u);
+    declined("due beyond the clock's end", 4, 0);
+
+    /* Every byte that is zero in every sound image of two live orders. */
+    for (size_t at = 0; at < 2128; at++) {
+        size_t in_record = at < 80 ? 0 : (at - 80) % 64;
+        int zero = at == 7 || (at >= 16 && at < 80 && at % 8 >= 6) || at >= 208 || (in_record >= 17 && in_record <= 19) || in_record >= 60;
+        if (zero) {
+            two_waiting();
+            image[at] = (uint8_t)(1u << at % 8);
+            both_calls("a zero byte that is not 0", (int)(at % PLACES), 4, 0, 0, 0);
+        }
+    }
+    /* Every bit of mark and version. */
+    for (size_t bit = 0; bit < 40; bit++) {
+        two_waiting();
+        image[bit / 8] ^= (uint8_t)(1u << bit % 8);
+        declined("mark or version", 3, 0);
+    }
+}
+
+/* "first "no" decides": a call to which every question from 1 on is answered no, as far as one call can have that; then the first of them is mended, and so on.
+ * The live orders cost 1 at each of 3 stations, have the sum 40 and no tick to spare: 40 + 1 + 1. The newcomer costs 100 at each. */
+static void first_no(void)
+{
+    uint8_t unmarked[2128], unsound[2128];
+    empty_image(3, 3999990000u, 0);
+    counts(image, 32, 0);
+    for (int k = 0; k < 32; k++)
+        record(image, k, 1000 + (uint32_t)k, 3999980000u, 3999980042u, 40, 1, RANKS(0), ROW(1, 1, 1), ROW(1, 1, 1));
+    memcpy(unsound, image, 2128);
+    unsound[7] = 1;
+    memcpy(unmarked, unsound, 2128);
+    unmarked[0] = 0;
+
+    uint8_t sound[2128];
+    memcpy(sound, image, 2128);
+    memcpy(image, unmarked, 2128);
+    block(60001, RANKS(0, 0, 0, 1), ROW(100, 100, 6001));
+    reply_length = 15;
+    image_length = 2127;
+    order_length = 27;
+    declined("all wrong", 1, 0);
+    reply_length = 16;
+    declined("from the length of the image on", 2, 0);
+    image_length = 2128;
+    declined("from the mark on", 3, 0);
+    memcpy(image, unsound, 2128);
+    declined("from soundness on", 4, 0);
+    memcpy(image, sound, 2128);
+    declined("from the length of the order on", 5, 0);
+    order_length = 28;
+    declined("from the costs on", 6, 0);
+    block(60001, RANKS(0, 0, 0, 1), ROW(100, 100, 100));
+    declined("from the ranks on", 6, 0);
+    block(60001, RANKS(0), ROW(100, 100, 100));
+    declined("from the due-in on", 7, 0);
+    block(60000, RANKS(0), ROW(100, 100, 100));
+    declined("from the due tick on", 8, 0);
+    block(1, RANKS(0), ROW(100, 100, 100));
+    declined("from the tickets on", 9, 0);
+    counts(image, 32, 1032);
+    declined("from the live orders on", 10, 0);
+    /* With 31 live orders: 100 + 31 and 100 for stations 1 and 2 are 331. A live order has 140 + 200 of 42 then. */
+    counts(image, 31, 1032);
+    memset(image + 80 + 64 * 31, 0, 64);
+    declined("from the newcomer's due tick on", 11, 1 - 331);
+    block(330, RANKS(0), ROW(100, 100, 100));
+    declined("newcomer late by one tick", 11, 42 - 340);
+    block(331, RANKS(0), ROW(100, 100, 100));
+    declined("live orders late", 12, 42 - 340);
+    /* The last live order alone would be late: the others have 340, and it has 339. */
+    for (int k = 0; k < 31; k++)
+        put4(image + 80 + 64 * k + 8, 3999980000u + (k == 30 ? 339 : 340));
+    declined("the last live order late", 12, -1);
+    put4(image + 80 + 64 * 30 + 8, 3999980000u + 340);
+    begin_after(32, 1033);
+    for (int k = 0; k < 31; k++)
+        record(after, k, 1000 + (uint32_t)k, 3999980000u, 3999980340u, 140, 1, RANKS(0), ROW(1, 1, 1), ROW(100, 100, 100));
+    record(after, 31, 1032, 3999990000u, 3999990331u, 131, 1, RANKS(0), ROW(100, 100, 100), ROW(100, 100, 100));
+    accepted("nothing wrong", 1032, 3999990331u, 0);
+}
+
+int main(void)
+{
+    make_room(&image_lent);
+    make_room(&order_lent);
+    make_room(&reply_lent);
+
+    /* The header's constants are the paper's numbers. */
+    strcpy(what, "reading the header");
+    CHECK(DISPATCHER_ORDER_SIZE == 28);
+    CHECK(DISPATCHER_ORDER_DUE_IN_AT == 0 && DISPATCHER_ORDER_RANKS_AT == 4 && DISPATCHER_ORDER_COSTS_AT == 12);
+    CHECK(DISPATCHER_REPLY_NUMBER_AT == 0 && DISPATCHER_REPLY_TICKET_AT == 4 && DISPATCHER_REPLY_TICK_AT == 8 && DISPATCHER_REPLY_MARGIN_AT == 12);
+    CHECK(DISPATCHER_MAX_LIVE == 32);
+    CHECK(DISPATCHER_MAX_COST == 6000);
+    CHECK(DISPATCHER_MAX_DUE_IN == 60000);
+    CHECK(DISPATCHER_DEFAULT_DUE_IN == 18000);
+    CHECK(DISPATCHER_LAST_TICK == 4000000000u);
+    CHECK(DISPATCHER_BAD_MARK == 3 && DISPATCHER_BAD_IMAGE == 4 && DISPATCHER_BAD_ORDER_LENGTH == 5 && DISPATCHER_BAD_ORDER == 6);
+    CHECK(DISPATCHER_BAD_DUE_IN == 7 && DISPATCHER_DUE_TOO_FAR == 8 && DISPATCHER_NO_TICKET == 9 && DISPATCHER_FULL == 10);
+    CHECK(DISPATCHER_LATE == 11 && DISPATCHER_DELAYS_OTHERS == 12);
+
+    two_orders();
+    one_station();
+    eight_stations();
+    full_cabinet();
+    of_another_history();
+    last_station();
+    ends_of_ranges();
+    lengths();
+    damaged_images();
+    first_no();
+
+    strcpy(what, "all calls");
+    for (int number = 0; number <= 12; number++) {
+        printf("number %2d: %5lu quotes, %5lu offers\n", number, seen[QUOTE][number], seen[OFFER][number]);
+        CHECK(seen[QUOTE][number] > 0 && seen[OFFER][number] > 0);
+    }
+    printf("%lu checks hold: number, image, order, reply, guard bytes\n", checks);
+    return 0;
+}
