@@ -35,7 +35,7 @@ returns c =
     let joined = c .before .before in
     let wide = joined .before .before .before in
     let top = wide .before in
-    rw (wide .wide .ensures) (accepted (top .pre .0) _ (top .pre .1 .0 .room) (top .pre .1 .1) (rw (← wide .wide .ensures) (joined .joined .ensures)) (c .ticket-after .ensures))
+    rw (wide .wide .ensures) (accepted (top .pre .0) _ (top .pre .1 .0 .room) (top .pre .1 .1) (rw (wide .wide .ensures) at (joined .joined .ensures)) (c .ticket-after .ensures))
 
 pub accept-spec : {M : Type 1} → statement M
 accept-spec =
