@@ -1,2 +1,4 @@
 -- Laws of the calls.
 pub mod OpenLaws
+pub mod OfferLaws
+pub mod HeardLaws

@@ -1,2 +1,3 @@
 -- What the contracts of the calls say.
 pub mod Gives
+pub mod Heard

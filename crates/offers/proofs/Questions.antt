@@ -28,14 +28,14 @@ use Rattle.offers.specs.Considered.{Fitting, Considered}
 use Rattle.offers.specs.Exact.{_⇔_}
 
 -- A question's answer, and whether its "no" gives another number than n.
-answer : Question → Bool
+unfoldable pub answer : Question → Bool
 answer (b else number) = b
 
-gives-other : ℕ → Question → Bool
+unfoldable pub gives-other : ℕ → Question → Bool
 gives-other n (b else number) = not (eqb number n)
 
 -- A number that none of the first questions gives comes from those after them, where all of the first pass.
-first-no : (n : ℕ) (l m : List Question) → all (gives-other n) l ≡ true → (firstNo (l ++ m) ≡ n) ⇔ ((all answer l ≡ true) × (firstNo m ≡ n))
+pub first-no : (n : ℕ) (l m : List Question) → all (gives-other n) l ≡ true → (firstNo (l ++ m) ≡ n) ⇔ ((all answer l ≡ true) × (firstNo m ≡ n))
 unfolding all firstNo answer gives-other
 first-no n [] m h = record { only = λ e. (refl, e); if = λ t. t .1 }
 first-no n ((true else k) ∷ l) m h = first-no n l m (and-both (not (eqb k n)) (all (gives-other n) l) h .1)

@@ -26,6 +26,7 @@ pub enum Answer {
     ImageLength,
     Mark,
     Unsound,
+    BlockLength,
     Stations,
 }
 
@@ -39,6 +40,7 @@ pub fn number(answer: Answer) -> u32
         Answer::ImageLength => 2,
         Answer::Mark => 3,
         Answer::Unsound => 4,
+        Answer::BlockLength => 5,
         Answer::Stations => 14,
     }
 }

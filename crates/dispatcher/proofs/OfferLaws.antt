@@ -1,0 +1,139 @@
+-- What the first five questions of an offer tell, and the call by its number.
+use mathlib.Core.Path.{_≡_, refl, sym, ap, _∙_}
+use mathlib.Core.Bool.{Bool, true, false, true≢false}
+use mathlib.Core.List.{List, [], _∷_, _++_, append-nil}
+use Prim.Native.Nat.{ℕ, _≤_}
+use native.Mathlib.Omega.{arith}
+use lib.ListN.{length}
+use lib.Dec.{eqb}
+use borrow.Author.Tests.{eq-eqb, ne-eqb, eqb-true}
+use Rattle.model.specs.Lists.{all, isZero}
+use Rattle.model.specs.Bytes.{fourBytes, bits32}
+use Rattle.model.specs.Layout.{imageSize, blockSize, replySize}
+use Rattle.model.specs.Image.{marked, decode, encode}
+use Rattle.model.specs.Soundness.{sound}
+use Rattle.model.specs.Questions.{Question, _else_, firstNo, Answer, replyBytes, zeros}
+use Rattle.model.specs.Admission.{blockOf, accept, blockLengthQuestion, blockQuestions, counterQuestions, orderQuestions, offerAnswer, quoteAnswer}
+use Rattle.model.specs.Calls.{replyQuestion, lengthQuestion, imageQuestions, offerNumber, offerCall, quoteCall, result}
+use Rattle.lists.proofs.Tests.{and-both}
+use Rattle.offers.proofs.Questions.{answer, gives-other, first-no}
+use Rattle.dispatcher.specs.Gives.{Gives}
+use Rattle.dispatcher.specs.Heard.{Heard}
+
+-- A "no" decides, whatever is asked after it.
+decides : (l m : List Question) (k : ℕ) → k ≡ firstNo l → (k ≡ 0 → ⊥) → k ≡ firstNo (l ++ m)
+unfolding firstNo
+decides [] m k e some = absurd (some e)
+decides ((true else j) ∷ l) m k e some = decides l m k e some
+decides ((false else j) ∷ l) m k e some = e
+
+-- Questions whose numbers are not 0 all pass where 0 comes out, and those after them decide.
+passed : (l : List Question) → all (gives-other 0) l ≡ true → firstNo l ≡ 0 → all answer l ≡ true
+unfolding all firstNo answer gives-other
+passed l h e = first-no 0 l [] h .only (ap firstNo (append-nil l) ∙ e) .0
+
+after : (l m : List Question) → all answer l ≡ true → firstNo m ≡ firstNo (l ++ m)
+unfolding all firstNo answer
+after [] m h = refl
+after ((true else j) ∷ l) m h = after l m h
+after ((false else j) ∷ l) m h = absurd (true≢false (sym h))
+
+-- Question 5.
+pub block-no : (block : List ℕ) → (length block ≡ blockSize → ⊥) → 5 ≡ firstNo (blockLengthQuestion block ∷ [])
+unfolding firstNo blockLengthQuestion
+block-no block h = rw (ne-eqb (length block) blockSize h)
+
+pub block-yes : (block : List ℕ) → length block ≡ blockSize → 0 ≡ firstNo (blockLengthQuestion block ∷ [])
+unfolding firstNo blockLengthQuestion
+block-yes block h = rw (eq-eqb (length block) blockSize h)
+
+five-most : (a b c d e : Bool) → firstNo ((a else 1) ∷ (b else 2) ∷ (c else 3) ∷ (d else 4) ∷ (e else 5) ∷ []) ≤ 5
+unfolding firstNo
+five-most true true true true true = omega arith
+five-most true true true true false = omega arith
+five-most true true true false e = omega arith
+five-most true true false d e = omega arith
+five-most true false c d e = omega arith
+five-most false b c d e = omega arith
+
+module _ (image block reply : List ℕ) where
+  four : List Question
+  four = replyQuestion reply ∷ imageQuestions image
+
+  five : List Question
+  five = replyQuestion reply ∷ imageQuestions image ++ (blockLengthQuestion block ∷ [])
+
+  -- The first five, as the code asks them.
+  pub four-no : (k : ℕ) → k ≡ firstNo (replyQuestion reply ∷ imageQuestions image) → (k ≡ 0 → ⊥) → k ≡ firstNo (replyQuestion reply ∷ imageQuestions image ++ (blockLengthQuestion block ∷ []))
+  unfolding four five
+  four-no k e some = decides four (blockLengthQuestion block ∷ []) k e some
+
+  pub four-yes : (k : ℕ) → firstNo (replyQuestion reply ∷ imageQuestions image) ≡ 0 → k ≡ firstNo (blockLengthQuestion block ∷ []) → k ≡ firstNo (replyQuestion reply ∷ imageQuestions image ++ (blockLengthQuestion block ∷ []))
+  unfolding four five all gives-other replyQuestion imageQuestions lengthQuestion
+  four-yes k zero e = e ∙ after four (blockLengthQuestion block ∷ []) (passed four refl zero)
+
+  pub heard : firstNo (replyQuestion reply ∷ imageQuestions image ++ (blockLengthQuestion block ∷ [])) ≡ 0 → Heard image block reply
+  unfolding five all answer gives-other replyQuestion imageQuestions lengthQuestion blockLengthQuestion
+  heard e =
+      let t1 = and-both (eqb (length reply) replySize) _ (passed five refl e) in
+      let t2 = and-both (eqb (length image) imageSize) _ (t1 .1) in
+      let t3 = and-both (marked image) _ (t2 .1) in
+      let t4 = and-both (sound image) _ (t3 .1) in
+      let t5 = and-both (eqb (length block) blockSize) true (t4 .1) in
+      record {
+        reply-whole = eqb-true (length reply) replySize (t1 .0);
+        image-whole = eqb-true (length image) imageSize (t2 .0);
+        image-marked = t3 .0;
+        image-sound = t4 .0;
+        block-whole = eqb-true (length block) blockSize (t5 .0);
+      }
+
+  pub replied : (firstNo (replyQuestion reply ∷ imageQuestions image ++ (blockLengthQuestion block ∷ [])) ≡ 1 → ⊥) → length reply ≡ replySize
+  unfolding firstNo replyQuestion
+  replied other = go (eqb (length reply) replySize) refl
+    where
+      go : (t : Bool) → eqb (length reply) replySize ≡ t → length reply ≡ replySize
+      go true e = eqb-true (length reply) replySize e
+      go false e = absurd (other (rw e))
+
+  -- The call by its number, where one of the first five says "no".
+  module _ (number : ℕ) (is : number ≡ firstNo (replyQuestion reply ∷ imageQuestions image ++ (blockLengthQuestion block ∷ []))) (some : number ≡ 0 → ⊥) where
+    number-is : number ≡ offerNumber image block reply
+    unfolding five offerNumber imageQuestions orderQuestions
+    number-is = decides five (blockQuestions (decode image .n) (blockOf block) ++ counterQuestions (decode image) (blockOf block)) number is some
+
+    most : number ≤ 5
+    unfolding replyQuestion imageQuestions lengthQuestion blockLengthQuestion
+    most =
+        rw is (five-most (eqb (length reply) replySize) (eqb (length image) imageSize) (marked image) (sound image) (eqb (length block) blockSize))
+
+    no-values : offerAnswer number (decode image) (blockOf block) ≡ zeros
+    unfolding offerAnswer
+    no-values = rw (ne-eqb number 0 some, ne-eqb number 11 (λ e. omega (arith, most, e)), ne-eqb number 12 (λ e. omega (arith, most, e)))
+
+    pub offer-unheard : number ≡ 1 → Gives (offerCall image block reply) number image reply
+    unfolding offerCall result
+    offer-unheard one = record { number-is = number-is; image-is = rw (← number-is, one); reply-is = rw (← number-is, one) }
+
+    pub quote-unheard : number ≡ 1 → Gives (quoteCall image block reply) number image reply
+    unfolding quoteCall result
+    quote-unheard one = record { number-is = number-is; image-is = rw (← number-is, one); reply-is = rw (← number-is, one) }
+
+    module _ (other : number ≡ 1 → ⊥) where
+      pub offer-declined : Gives (offerCall image block reply) number image (fourBytes number ++ fourBytes 0 ++ fourBytes 0 ++ fourBytes 0)
+      unfolding offerCall result replyBytes
+      offer-declined =
+          record {
+            number-is = number-is;
+            image-is = rw (← number-is, ne-eqb number 0 some);
+            reply-is = rw (← number-is, ne-eqb number 1 other, no-values);
+          }
+
+      pub quote-declined : Gives (quoteCall image block reply) number image (fourBytes number ++ fourBytes 0 ++ fourBytes 0 ++ fourBytes 0)
+      unfolding quoteCall result replyBytes quoteAnswer
+      quote-declined =
+          record {
+            number-is = number-is;
+            image-is = rw (← number-is, ne-eqb number 0 some);
+            reply-is = rw (← number-is, ne-eqb number 1 other, no-values);
+          }
