@@ -3,4 +3,5 @@ pub mod FitLaws
 pub mod PipelineLaws
 pub mod TryLaws
 pub mod OfferLaws
+pub mod JoinLaws
 pub mod AcceptLaws
