@@ -15,7 +15,6 @@ use Rattle.image.specs.declared.Pipeline.{Pipeline}
 use Rattle.image.specs.Pipeline.{unused, listed, padded}
 use Rattle.admission.specs.Answers.{SoundPipeline}
 use Rattle.admission.proofs.PipelineLaws.{live-is}
-use Rattle.admission.proofs.JoinLaws.{joining}
 
 module _ {p : Pipeline} (ok : SoundPipeline p) (b : Block) (room : length (listed p .orders) < maxLive) where
   rest : drop (p .live) (p .orders) ≡ unused ∷ replicate (maxLive - (p .live + 1)) unused
@@ -43,6 +42,6 @@ module _ {p : Pipeline} (ok : SoundPipeline p) (b : Block) (room : length (liste
       ∙ sym (append-assoc (joinedLive (listed p) b) (arrival (listed p) b ∷ []) spare)
       ∙ ap (λ (k : ℕ). accept (listed p) b .orders ++ replicate (maxLive - k) unused) (sym accepted-length)
 
-  pub accepted : {a : Order} {q : Pipeline} {next : ℕ} → a ≡ arrival (listed p) b → q ≡ joining b p (p .live) → next ≡ cond (eqb (p .next) lastTicket) 0 (p .next + 1) → record { n = q .n; live = p .live + 1; clock = q .clock; next = next; services = q .services; orders = set (q .orders) (p .live) a } ≡ padded (accept (listed p) b)
+  pub accepted : {a : Order} {orders : List Order} {next : ℕ} → a ≡ arrival (listed p) b → orders ≡ map (joinedBy b) (take (p .live) (p .orders)) ++ drop (p .live) (p .orders) → next ≡ cond (eqb (p .next) lastTicket) 0 (p .next + 1) → record { n = p .n; live = p .live + 1; clock = p .clock; next = next; services = p .services; orders = set orders (p .live) a } ≡ padded (accept (listed p) b)
   unfolding padded listed accept
   accepted e o n = rw (e, o, n, laid, ← accepted-length)

@@ -3,5 +3,4 @@ pub mod FitLaws
 pub mod PipelineLaws
 pub mod TryLaws
 pub mod OfferLaws
-pub mod JoinLaws
 pub mod AcceptLaws

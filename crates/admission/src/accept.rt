@@ -11,7 +11,7 @@ ghost use Rattle.model.specs.Lists as lists;
 ghost use Rattle.model.specs.Admission.{joinedBy};
 ghost use Rattle.model.specs.Admission as counter;
 ghost use Rattle.schedule.specs.Valid.{_∈_};
-ghost use Rattle.image.specs.Pipeline.{listed, padded, withOrders};
+ghost use Rattle.image.specs.Pipeline.{listed, padded};
 ghost use Rattle.offers.specs.Considered.{Fitting};
 ghost use Rattle.admission.specs.Answers.{SoundPipeline};
 use image::Pipeline;
@@ -21,22 +21,22 @@ use model::Block;
 use model::Order;
 use model::limits::LAST_TICKET;
 
-// The live orders with the arrival in their interference sets; all else stays.
-fn joined(b: Block, p: Pipeline, live: usize) -> Pipeline
+// The live orders with the arrival in their interference sets; the records after them stay.
+fn joined(b: Block, orders: [Order; 32], live: usize) -> [Order; 32]
     requires { ⌜ live ≤ maxLive ⌝ }
-    requires { ⌜ ((o : order.Order) → o ∈ take live (p .orders) → lists.largest (b .costs) + o .sum < 4294967296) ⌝ }
-    ensures { λ r. ⌜ r ≡ withOrders p (map (joinedBy b) (take live (p .orders)) ++ drop live (p .orders)) ⌝ }
+    requires { ⌜ ((o : order.Order) → o ∈ take live orders → lists.largest (b .costs) + o .sum < 4294967296) ⌝ }
+    ensures { λ r. ⌜ r ≡ map (joinedBy b) (take live orders) ++ drop live orders ⌝ }
 {
     let costs = b.costs;
     let top = row_soundness::largest(costs);
-    let mut q = p;
+    let mut list = orders;
     let mut i: usize = 0;
     while i < live {
-        let o = q.orders[i];
-        q.orders[i] = joined_by(b, top, o);
+        let o = list[i];
+        list[i] = joined_by(b, top, o);
         i += 1;
     }
-    q
+    list
 }
 
 // "next ticket (4), 0 when none is left"
@@ -53,9 +53,16 @@ pub fn accept(p: Pipeline, b: Block, a: Order) -> Pipeline
     ensures { λ r. ⌜ r ≡ padded (counter.accept (listed p) b) ⌝ }
 {
     let live = wide(p.live);
-    let mut q = joined(b, p, live);
-    q.orders[live] = a;
-    q.live = p.live + 1;
-    q.next = ticket_after(p.next);
-    q
+    let orders = p.orders;
+    let services = p.services;
+    let mut all = joined(b, orders, live);
+    all[live] = a;
+    Pipeline {
+        n: p.n,
+        live: p.live + 1,
+        clock: p.clock,
+        next: ticket_after(p.next),
+        services: services,
+        orders: all,
+    }
 }

@@ -46,9 +46,10 @@ fn arrival(p: Pipeline, b: Block) -> Order
     requires { ⌜ Fitting (listed p) b ⌝ }
     ensures { λ r. ⌜ Arrives (listed p) b r ⌝ }
 {
+    let orders = p.orders;
     let ranks = b.ranks;
     let costs = b.costs;
-    let set = interference_of(costs, p, wide(p.live));
+    let set = interference_of(costs, orders, wide(p.live));
     let maxima = set.maxima;
     Order {
         ticket: p.next,
@@ -70,8 +71,9 @@ fn tried(p: Pipeline, b: Block, a: Order) -> Decision
     ensures { λ r. ⌜ Decides (drop 3 (counterQuestions (listed p) b)) (listed p) b r ⌝ }
 {
     let n = wide32(p.n);
+    let orders = p.orders;
     let own = margin(n, a);
-    let least = smallest_margin(n, own, b, p, wide(p.live));
+    let least = smallest_margin(n, own, b, orders, wide(p.live));
     if own < 0 {
         return Decision::Late(least);
     }

@@ -1,35 +1,17 @@
--- The state as far as its records are read: none at first, and all of the live ones at last, which is what the image says.
-use mathlib.Core.Path.{_≡_, refl, ap}
+-- The parts that decode reads are the state that the image says, with its records up to 32.
+use mathlib.Core.Path.{_≡_}
 use mathlib.Core.List.{List, _++_}
-use Prim.Native.Nat.{ℕ, _+_, _-_, _<_}
-use lib.ListN.{set, replicate}
-use Rattle.model.specs.declared.Order.{Order}
+use Prim.Native.Nat.{ℕ, _-_}
+use lib.ListN.{replicate}
 use Rattle.model.specs.Limits.{maxLive}
 use Rattle.model.specs.Bytes.{byte, word}
 use Rattle.model.specs.Layout.{stationCountAt, clockAt, nextAt, recordPart}
 use Rattle.model.specs.Image.{liveCount, orderOf, servicesOf, ordersOf, decode}
-use Rattle.lists.proofs.Fills.{length-upward, pad-start, pad-next}
-use Rattle.image.specs.declared.Pipeline.{Pipeline}
-use Rattle.image.specs.Pipeline.{unused, headOf, padded}
+use Rattle.lists.proofs.Fills.{length-upward}
+use Rattle.image.specs.Pipeline.{unused, padded}
+use Rattle.model.specs.declared.Order.{Order}
+use Rattle.model.specs.declared.Service.{Service}
 
-abbrev pub reading : List ℕ → ℕ → Pipeline
-reading image i =
-    record {
-      n = byte image stationCountAt;
-      live = liveCount image;
-      clock = word image clockAt;
-      next = word image nextAt;
-      services = servicesOf image;
-      orders = ordersOf image i ++ replicate (maxLive - i) unused;
-    }
-
-pub reading-none : (image : List ℕ) → headOf image ≡ reading image 0
-unfolding headOf
-reading-none image = ap (λ (l : List Order). record { n = byte image stationCountAt; live = liveCount image; clock = word image clockAt; next = word image nextAt; services = servicesOf image; orders = l }) (pad-start (λ i. orderOf (recordPart image i)) maxLive unused)
-
-pub reading-more : (image : List ℕ) (p : Pipeline) (i : ℕ) (o : Order) → i < maxLive → p ≡ reading image i → o ≡ orderOf (recordPart image i) → record { n = p .n; live = p .live; clock = p .clock; next = p .next; services = p .services; orders = set (p .orders) i o } ≡ reading image (i + 1)
-reading-more image p i o h e q = rw (e, q) (ap (λ (l : List Order). record { n = byte image stationCountAt; live = liveCount image; clock = word image clockAt; next = word image nextAt; services = servicesOf image; orders = l }) (pad-next (λ k. orderOf (recordPart image k)) maxLive unused _ i _ h refl refl))
-
-pub reading-all : (image : List ℕ) → reading image (liveCount image) ≡ padded (decode image)
+pub parts-padded : (image : List ℕ) (live clock next : ℕ) (services : List Service) (orders : List Order) → live ≡ liveCount image → clock ≡ word image clockAt → next ≡ word image nextAt → services ≡ servicesOf image → orders ≡ ordersOf image live ++ replicate (maxLive - live) unused → record { n = byte image stationCountAt; live = liveCount image; clock = clock; next = next; services = services; orders = orders } ≡ padded (decode image)
 unfolding padded decode
-reading-all image = rw (length-upward 0 (liveCount image) (λ i. orderOf (recordPart image i)))
+parts-padded image live clock next services orders l c n s o = rw (c, n, s, o, l, length-upward 0 (liveCount image) (λ i. orderOf (recordPart image i)))

@@ -6,9 +6,8 @@ use lib.ListN.{length, take, replicate}
 use Rattle.model.specs.declared.Order.{Order}
 use Rattle.model.specs.Limits.{maxLive}
 use Rattle.model.specs.State.{State}
-use Rattle.model.specs.Bytes.{byte, word}
-use Rattle.model.specs.Layout.{imageSize, stationCountAt, clockAt, nextAt}
-use Rattle.model.specs.Image.{liveCount, servicesOf}
+use Rattle.model.specs.Layout.{imageSize}
+use Rattle.model.specs.Image.{liveCount}
 use Rattle.image.specs.declared.Pipeline.{Pipeline}
 
 -- "the rest all zero"
@@ -17,18 +16,6 @@ eightZeros = 0 ∷ 0 ∷ 0 ∷ 0 ∷ 0 ∷ 0 ∷ 0 ∷ 0 ∷ []
 
 abbrev pub unused : Order
 unused = record { ticket = 0; accepted = 0; due = 0; sum = 0; station = 0; ranks = eightZeros; costs = eightZeros; maxima = eightZeros }
-
--- What the first 80 bytes of an image say, with no record in use.
-unfoldable pub headOf : List ℕ → Pipeline
-headOf image =
-    record {
-      n = byte image stationCountAt;
-      live = liveCount image;
-      clock = word image clockAt;
-      next = word image nextAt;
-      services = servicesOf image;
-      orders = replicate maxLive unused;
-    }
 
 -- The live orders, and unused records up to 32.
 unfoldable pub padded : State → Pipeline
@@ -41,10 +28,6 @@ padded s =
       services = s .services;
       orders = s .orders ++ replicate (maxLive - length (s .orders)) unused;
     }
-
--- The same with other records.
-abbrev pub withOrders : Pipeline → List Order → Pipeline
-withOrders p orders = record { n = p .n; live = p .live; clock = p .clock; next = p .next; services = p .services; orders = orders }
 
 -- The records in use.
 unfoldable pub listed : Pipeline → State

@@ -8,7 +8,7 @@ ghost use Rattle.model.specs.Limits.{maxStations, maxLive};
 ghost use Rattle.model.specs.Layout.{imageSize, serviceSize, recordSize, servicePart, recordPart};
 ghost use Rattle.model.specs.Image.{serviceOf, orderOf, servicesOf, ordersOf};
 ghost use Rattle.model.specs.Image as says;
-ghost use Rattle.image.specs.Pipeline.{headOf, padded, Readable};
+ghost use Rattle.image.specs.Pipeline.{unused, padded, Readable};
 use super::Pipeline;
 use super::layout::ACCEPTED_AT;
 use super::layout::CLOCK_AT;
@@ -103,13 +103,28 @@ pub fn services_of(image: &[u8]) -> [Service; 8]
     services
 }
 
-// A state with no records in use. Its counts and ticks are the image's.
-fn head_of(image: &[u8]) -> Pipeline
-    requires { ⌜ length (now image) ≡ imageSize ⌝ }
-    ensures { λ r. ⌜ r ≡ headOf (now (image .entry)) ⌝ }
+// The first `live` records, and unused ones up to 32. The array is a local of its own, as the one that `image_writer` reads
+// is: then the compiler keeps one array of records between the two, where a part of a larger struct would be copied.
+pub fn orders_of(image: &[u8], live: usize) -> [Order; 32]
+    requires { ⌜ (length (now image) ≡ imageSize) × (live ≤ maxLive) ⌝ }
+    ensures { λ r. ⌜ r ≡ ordersOf (now (image .entry)) live ++ replicate (maxLive - live) unused ⌝ }
+{
+    let mut orders = unused_orders();
+    let mut i: usize = 0;
+    while i < live {
+        orders[i] = order_at(image, i);
+        i += 1;
+    }
+    orders
+}
+
+// What an image says. Neither the bytes of a number in another order nor the clock read for the next ticket meets the promise.
+pub fn decode(image: &[u8]) -> Pipeline
+    requires { ⌜ Readable (now image) ⌝ }
+    ensures { λ r. ⌜ r ≡ padded (says.decode (now (image .entry))) ⌝ }
 {
     let services = services_of(image);
-    let orders = unused_orders();
+    let orders = orders_of(image, wide(image[LIVE_COUNT_AT]));
     Pipeline {
         n: image[STATION_COUNT_AT],
         live: image[LIVE_COUNT_AT],
@@ -118,19 +133,4 @@ fn head_of(image: &[u8]) -> Pipeline
         services: services,
         orders: orders,
     }
-}
-
-// What an image says. The records are laid where they stay: an array of its own would be copied into the state. Neither the bytes of a number in another order nor the clock read for the next ticket meets the promise.
-pub fn decode(image: &[u8]) -> Pipeline
-    requires { ⌜ Readable (now image) ⌝ }
-    ensures { λ r. ⌜ r ≡ padded (says.decode (now (image .entry))) ⌝ }
-{
-    let mut p = head_of(image);
-    let live = wide(image[LIVE_COUNT_AT]);
-    let mut i: usize = 0;
-    while i < live {
-        p.orders[i] = order_at(image, i);
-        i += 1;
-    }
-    p
 }

@@ -102,14 +102,13 @@ fn put_order(image: &mut [u8], at: usize, o: Order)
     put_u32(image, at + RECORD_ZERO_AT, 0);
 }
 
-// The records are read where they stand: an array of its own would be a copy.
-fn put_orders(image: &mut [u8], p: Pipeline, live: usize)
+fn put_orders(image: &mut [u8], orders: [Order; 32], live: usize)
     requires { ⌜ (length (now image) ≡ imageSize) × (live ≤ maxLive) ⌝ }
-    ensures { λ _. ⌜ Stored (now (image .entry)) recordsAt (concat (map orderBytes (take live (p .orders)))) (now (image .exit)) × (length (concat (map orderBytes (take live (p .orders)))) ≡ recordSize * live) ⌝ }
+    ensures { λ _. ⌜ Stored (now (image .entry)) recordsAt (concat (map orderBytes (take live orders))) (now (image .exit)) × (length (concat (map orderBytes (take live orders))) ≡ recordSize * live) ⌝ }
 {
     let mut i: usize = 0;
     while i < live {
-        let o = p.orders[i];
+        let o = orders[i];
         put_order(image, RECORDS_AT + RECORD_SIZE * i, o);
         i += 1;
     }
@@ -134,8 +133,9 @@ pub fn encode(image: &mut [u8], p: Pipeline)
 {
     let live = wide(p.live);
     let services = p.services;
+    let orders = p.orders;
     put_header(image, p.n, p.live, p.clock, p.next);
     put_services(image, services);
-    put_orders(image, p, live);
+    put_orders(image, orders, live);
     put_zeros(image, RECORDS_AT + RECORD_SIZE * live);
 }

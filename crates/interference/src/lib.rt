@@ -7,7 +7,6 @@ ghost use Rattle.model.specs.Limits.{maxLive};
 ghost use Rattle.model.specs.Lists as lists;
 ghost use Rattle.model.specs.Admission.{joinedBy};
 ghost use Rattle.interference.specs.Interference.{interferenceOf};
-use image::Pipeline;
 use model::Block;
 use model::Order;
 
@@ -36,18 +35,17 @@ fn larger_row(a: [u16; 8], b: [u16; 8]) -> [u16; 8]
     row
 }
 
-// The set of an arrival with these costs: itself and the live orders, by their own costs. The records are read where they
-// stand in the state: an array of its own would be a copy. Neither the live orders' stored
+// The set of an arrival with these costs: itself and the live orders, by their own costs. Neither the live orders' stored
 // maxima in the place of their costs nor a set without the arrival meets the promise.
-pub fn interference_of(costs: [u16; 8], p: Pipeline, live: usize) -> Interference
+pub fn interference_of(costs: [u16; 8], orders: [Order; 32], live: usize) -> Interference
     requires { ⌜ live ≤ maxLive ⌝ }
-    ensures { λ r. ⌜ (r ≡ interferenceOf costs (take live (p .orders))) × (r .sum < 2162688) ⌝ }
+    ensures { λ r. ⌜ (r ≡ interferenceOf costs (take live orders)) × (r .sum < 2162688) ⌝ }
 {
     let mut sum = row_soundness::largest(costs);
     let mut maxima = costs;
     let mut i: usize = 0;
     while i < live {
-        let o = p.orders[i];
+        let o = orders[i];
         let own = o.costs;
         sum = row_soundness::largest(own) + sum;
         let more = larger_row(own, maxima);

@@ -12,7 +12,6 @@ ghost use Rattle.model.specs.DelayBound as delay;
 ghost use Rattle.model.specs.Admission.{joinedBy, smallest};
 ghost use Rattle.schedule.specs.Valid.{_∈_};
 ghost use Rattle.margins.specs.Margins.{MarginFits};
-use image::Pipeline;
 use interference::joined_by;
 use model::Block;
 use model::Order;
@@ -49,17 +48,17 @@ fn smaller(a: i32, b: i32) -> i32
 
 // The smallest of the arrival's margin and those of the live orders, each tried with the arrival in its interference set.
 // Neither the arrival's margin alone nor the first live order's left out meets the promise.
-pub fn smallest_margin(n: u32, own: i32, b: Block, p: Pipeline, live: usize) -> i32
+pub fn smallest_margin(n: u32, own: i32, b: Block, orders: [Order; 32], live: usize) -> i32
     requires { ⌜ live ≤ maxLive ⌝ }
-    requires { ⌜ ((o : order.Order) → o ∈ take live (p .orders) → MarginFits n (joinedBy b o)) ⌝ }
-    ensures { λ r. ⌜ r ≡ smallest own (map (delay.margin n) (map (joinedBy b) (take live (p .orders)))) ⌝ }
+    requires { ⌜ ((o : order.Order) → o ∈ take live orders → MarginFits n (joinedBy b o)) ⌝ }
+    ensures { λ r. ⌜ r ≡ smallest own (map (delay.margin n) (map (joinedBy b) (take live orders))) ⌝ }
 {
     let costs = b.costs;
     let top = row_soundness::largest(costs);
     let mut least = own;
     let mut i: usize = 0;
     while i < live {
-        let o = p.orders[i];
+        let o = orders[i];
         least = smaller(least, margin(n, joined_by(b, top, o)));
         i += 1;
     }

@@ -43,9 +43,9 @@ returns c =
     let k3 = k4 .before .before .before .before in
     let k2 = k3 .before .before .before .before in
     let k1 = k2 .before .before .before .before in
-    let top = k1 .before .before .before .before .before in
+    let top = k1 .before .before .before .before .before .before in
     let p = top .args .p in
-    let live = k1 .before .before .before .wide .ensures in
+    let live = k1 .before .before .before .before .wide .ensures in
     let orders = rw live at (k3 .put-orders .ensures) in
     let zeros = rw live at (k4 .put-zeros .ensures) in
     encoded p (top .pre .1) (orders-long top) (top .pre .0) (k1 .put-header .ensures) (k2 .put-services .ensures .0) (k2 .put-services .ensures .1) (orders .0) (orders .1)

@@ -7,15 +7,15 @@ use borrow.Author.Needs.{needs}
 use Rattle.model.specs.Lists.{concat}
 use Rattle.model.specs.Image.{orderBytes}
 use Rattle.lists.proofs.Stores.{stored-same}
-use Rattle.lists.proofs.Fills.{Rows, rows-none, rows-more, map-upward, length-mapped, past}
+use Rattle.lists.proofs.Fills.{Rows, rows-none, rows-more, map-upward, past}
 use Rattle.image_writer.proofs.put_orders.Statement.{statement}
 use Rattle.image_writer.proofs.put_orders.Tie as tie
 
 abbrev Inv-loop : tie.InvT-loop
-Inv-loop image₀ live p i₀ image i = (i ≤ live) × (length image ≡ 2128) × Rows (λ k. orderBytes (getD (p .orders) k past)) 64 image₀ 80 i image
+Inv-loop image₀ live orders i₀ image i = (i ≤ live) × (length image ≡ 2128) × Rows (λ k. orderBytes (getD orders k past)) 64 image₀ 80 i image
 
 abbrev μ-loop : tie.MeasureT-loop
-μ-loop image₀ live p i₀ image i = live - i
+μ-loop image₀ live orders i₀ image i = live - i
 
 loop-holds : tie.Need-loop-holds Inv-loop μ-loop
 loop-holds c = (omega arith, search needs, rows-none _ _ _ _)
@@ -23,8 +23,8 @@ loop-holds c = (omega arith, search needs, rows-none _ _ _ _)
 mul-o : tie.Need-mul-o Inv-loop μ-loop
 mul-o c = omega arith
 
-element-copy-out-o : tie.Need-element-copy-out-o Inv-loop μ-loop
-element-copy-out-o c = search needs
+array-copy-out-o : tie.Need-array-copy-out-o Inv-loop μ-loop
+array-copy-out-o c = search needs
 
 mul-put-order : tie.Need-mul-put-order Inv-loop μ-loop
 mul-put-order c = omega arith
@@ -50,15 +50,12 @@ loop-again c =
 same-length : tie.Need-same-length Inv-loop μ-loop
 same-length c = search needs
 
-orders-long : (c : tie.Start Inv-loop μ-loop) → length (c .args .t2 .orders) ≡ 32
-orders-long c = search (needs, length-mapped)
-
 returns : tie.Need-returns Inv-loop μ-loop
 returns c =
     let inv = c .before .loop .inv in
     let top = c .before .before .before in
-    let orders = top .args .t2 .orders in
-    let long = orders-long top in
+    let orders = top .args .t2 in
+    let long : length orders ≡ 32 = search needs in
     let e : c .before .loop .i ≡ top .args .live = omega arith in
     let rows = rw e at (inv .2) in
     let same = ap concat (sym (map-upward orderBytes past orders (top .args .live) (omega arith))) in
@@ -72,7 +69,7 @@ put-orders-spec =
     μ-loop
     loop-holds
     mul-o
-    element-copy-out-o
+    array-copy-out-o
     mul-put-order
     add-put-order
     put-order-requires

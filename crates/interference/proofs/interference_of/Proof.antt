@@ -8,17 +8,17 @@ use borrow.Author.Needs.{needs}
 use Rattle.model.specs.declared.Order.{Order}
 use Rattle.model.specs.Lists.{upward}
 use Rattle.model.specs.DelayBound.{sumOf, maximaOf}
-use Rattle.lists.proofs.Fills.{map-upward, length-mapped, past}
+use Rattle.lists.proofs.Fills.{map-upward, past}
 use Rattle.lists.proofs.Maxima.{sum-start, maxima-start, sum-more, maxima-more}
 use Rattle.interference.specs.Interference.{interferenceOf}
 use Rattle.interference.proofs.interference_of.Statement.{statement}
 use Rattle.interference.proofs.interference_of.Tie as tie
 
 abbrev Inv-loop : tie.InvT-loop
-Inv-loop live p sum₀ costs i₀ sum maxima i = (i ≤ live) × (sum < 65536 * (i + 1)) × (length maxima ≡ 8) × (sum ≡ sumOf (costs ∷ upward 0 i (λ k. getD (p .orders) k past .costs))) × (maxima ≡ maximaOf (costs ∷ upward 0 i (λ k. getD (p .orders) k past .costs)))
+Inv-loop live orders sum₀ costs i₀ sum maxima i = (i ≤ live) × (sum < 65536 * (i + 1)) × (length maxima ≡ 8) × (sum ≡ sumOf (costs ∷ upward 0 i (λ k. getD orders k past .costs))) × (maxima ≡ maximaOf (costs ∷ upward 0 i (λ k. getD orders k past .costs)))
 
 abbrev μ-loop : tie.MeasureT-loop
-μ-loop live p sum₀ costs i₀ sum maxima i = live - i
+μ-loop live orders sum₀ costs i₀ sum maxima i = live - i
 
 largest-requires : tie.Need-largest-requires Inv-loop μ-loop
 largest-requires c κs = search needs
@@ -29,8 +29,8 @@ loop-holds c = (omega arith, omega arith, search needs, c .largest .ensures .0 �
 mul-o : tie.Need-mul-o Inv-loop μ-loop
 mul-o c = omega arith
 
-element-copy-out-o : tie.Need-element-copy-out-o Inv-loop μ-loop
-element-copy-out-o c = search needs
+array-copy-out-o : tie.Need-array-copy-out-o Inv-loop μ-loop
+array-copy-out-o c = search needs
 
 largest-requires-2 : tie.Need-largest-requires-2 Inv-loop μ-loop
 largest-requires-2 c κs = search needs
@@ -52,7 +52,7 @@ loop-again c =
     let k = c .before .before .before .before .before in
     let inv = k .loop .inv in
     let costs = k .before .before .args .costs in
-    let own : ℕ → List ℕ = λ j. getD (k .before .before .args .t2 .orders) j past .costs in
+    let own : ℕ → List ℕ = λ j. getD (k .before .before .args .t2) j past .costs in
     let sum = c .before .largest2 .ensures in
     (
       omega arith,
@@ -62,16 +62,13 @@ loop-again c =
       c .larger-row .ensures ∙ rw (inv .4) (sym (maxima-more costs own (k .loop .i))),
     )
 
-orders-long : (c : tie.Start Inv-loop μ-loop) → length (c .args .t2 .orders) ≡ 32
-orders-long c = search (needs, length-mapped)
-
 returns : tie.Need-returns Inv-loop μ-loop
 unfolding interferenceOf
 returns c =
     let inv = c .before .loop .inv in
     let top = c .before .before .before in
-    let orders = top .args .t2 .orders in
-    let long = orders-long top in
+    let orders = top .args .t2 in
+    let long : length orders ≡ 32 = search needs in
     let e : c .before .loop .i ≡ top .args .live = omega arith in
     let members = map-upward (λ (o : Order). o .costs) past orders (top .args .live) (omega arith) in
     (rw (inv .3, inv .4, e, members), omega (arith, inv .1))
@@ -85,7 +82,7 @@ interference-of-spec =
     largest-requires
     loop-holds
     mul-o
-    element-copy-out-o
+    array-copy-out-o
     largest-requires-2
     add-sum
     larger-row-requires

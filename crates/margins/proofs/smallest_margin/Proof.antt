@@ -15,7 +15,7 @@ use Rattle.model.specs.DelayBound.{boundTick, delayBound}
 use Rattle.model.specs.DelayBound as delay
 use Rattle.model.specs.Admission.{joinedBy, smallest}
 use Rattle.schedule.specs.Valid.{_∈_}
-use Rattle.lists.proofs.Fills.{map-upward, length-mapped, past}
+use Rattle.lists.proofs.Fills.{map-upward, past}
 use Rattle.lists.proofs.Tests.{upward-map}
 use Rattle.roundtrip.proofs.Rows.{getD-in}
 use Rattle.margins.specs.Margins.{MarginFits}
@@ -24,10 +24,10 @@ use Rattle.margins.proofs.smallest_margin.Statement.{statement}
 use Rattle.margins.proofs.smallest_margin.Tie as tie
 
 abbrev Inv-loop : tie.InvT-loop
-Inv-loop n own b live p top least₀ i₀ least i = (i ≤ live) × (toZ w32 least ≡ smallest (toZ w32 own) (upward 0 i (λ k. delay.margin n (joinedBy b (getD (p .orders) k past)))))
+Inv-loop n own b live orders top least₀ i₀ least i = (i ≤ live) × (toZ w32 least ≡ smallest (toZ w32 own) (upward 0 i (λ k. delay.margin n (joinedBy b (getD orders k past)))))
 
 abbrev μ-loop : tie.MeasureT-loop
-μ-loop n own b live p top least₀ i₀ least i = live - i
+μ-loop n own b live orders top least₀ i₀ least i = live - i
 
 largest-requires : tie.Need-largest-requires Inv-loop μ-loop
 largest-requires c κs = search needs
@@ -38,18 +38,15 @@ loop-holds c = (omega arith, smallest-start _ _)
 mul-o : tie.Need-mul-o Inv-loop μ-loop
 mul-o c = omega arith
 
-element-copy-out-o : tie.Need-element-copy-out-o Inv-loop μ-loop
-element-copy-out-o c = search needs
-
-orders-long : (c : tie.Start Inv-loop μ-loop) → length (c .args .t4 .orders) ≡ 32
-orders-long c = search (needs, length-mapped)
+array-copy-out-o : tie.Need-array-copy-out-o Inv-loop μ-loop
+array-copy-out-o c = search needs
 
 -- A live order that is tried is one of the first `live`.
-tried : (c : tie.Start Inv-loop μ-loop) (i : ℕ) → i < c .args .live → MarginFits (c .args .n) (joinedBy (c .args .b) (getD (c .args .t4 .orders) i past))
+tried : (c : tie.Start Inv-loop μ-loop) (i : ℕ) → i < c .args .live → MarginFits (c .args .n) (joinedBy (c .args .b) (getD (c .args .t4) i past))
 tried c i h =
-    let orders = c .args .t4 .orders in
+    let orders = c .args .t4 in
     let live = c .args .live in
-    let long = orders-long c in
+    let long : length orders ≡ 32 = search needs in
     let few : live ≤ 32 = c .pre .0 in
     let here = getD-in (take live orders) past i (omega (arith, length-take-le live orders (omega (arith, few, long)), h)) in
     rw (getD-take live orders i past h) at (c .pre .1 (getD (take live orders) i past) here)
@@ -84,11 +81,11 @@ loop-again c =
 returns : tie.Need-returns Inv-loop μ-loop
 returns c =
     let top = c .before .before .before .before in
-    let orders = top .args .t4 .orders in
+    let orders = top .args .t4 in
     let live = top .args .live in
     let n = top .args .n in
     let joined = joinedBy (top .args .b) in
-    let long = orders-long top in
+    let long : length orders ≡ 32 = search needs in
     let e : c .before .loop .i ≡ live = omega arith in
     let margins = ap (map (delay.margin n)) (map-upward joined past orders live (omega arith)) ∙ upward-map (delay.margin n) 0 live (λ k. joined (getD orders k past)) in
     c .before .loop .inv .1 ∙ rw (toZ-ofZ {w = w32} (top .fits .own), e, margins)
@@ -102,7 +99,7 @@ smallest-margin-spec =
     largest-requires
     loop-holds
     mul-o
-    element-copy-out-o
+    array-copy-out-o
     joined-by-requires
     margin-requires
     smaller-requires

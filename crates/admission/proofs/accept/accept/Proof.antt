@@ -11,19 +11,21 @@ wide-requires c κs = search needs
 
 joined-requires : tie.Need-joined-requires
 joined-requires c κs =
-    let top = c .before in
-    (omega (arith, c .wide .ensures, few (top .pre .0)), sums-fit (top .pre .0) (top .pre .1 .0) (c .wide .ensures))
+    let wide = c .before .before in
+    let top = wide .before in
+    (omega (arith, wide .wide .ensures, few (top .pre .0)), sums-fit (top .pre .0) (top .pre .1 .0) (wide .wide .ensures))
 
-mul-a : tie.Need-mul-a
-mul-a c = search needs
+mul-all : tie.Need-mul-all
+mul-all c = search needs
 
-element-set-from-a : tie.Need-element-set-from-a
-element-set-from-a c =
-    let top = c .before .before in
-    omega (arith, c .before .wide .ensures, live-is (top .pre .0), top .pre .1 .0 .room)
+array-set-from-all : tie.Need-array-set-from-all
+array-set-from-all c =
+    let wide = c .before .before .before in
+    let top = wide .before in
+    omega (arith, wide .wide .ensures, live-is (top .pre .0), top .pre .1 .0 .room)
 
-add-q : tie.Need-add-q
-add-q c = let top = c .before .before .before in record { fits = omega (arith, live-is (top .pre .0), top .pre .1 .0 .room) }
+add-t12 : tie.Need-add-t12
+add-t12 c = let top = c .before .before .before .before .before in record { fits = omega (arith, live-is (top .pre .0), top .pre .1 .0 .room) }
 
 ticket-after-requires : tie.Need-ticket-after-requires
 ticket-after-requires c κs = search needs
@@ -31,10 +33,9 @@ ticket-after-requires c κs = search needs
 returns : tie.Need-returns
 returns c =
     let joined = c .before .before in
-    let wide = joined .before in
+    let wide = joined .before .before .before in
     let top = wide .before in
-    rw (wide .wide .ensures)
-    (accepted (top .pre .0) _ (top .pre .1 .0 .room) (top .pre .1 .1) (rw (wide .wide .ensures) at (joined .joined .ensures)) (c .ticket-after .ensures))
+    rw (wide .wide .ensures) (accepted (top .pre .0) _ (top .pre .1 .0 .room) (top .pre .1 .1) (rw (wide .wide .ensures) at (joined .joined .ensures)) (c .ticket-after .ensures))
 
 pub accept-spec : {M : Type 1} → statement M
 accept-spec =
@@ -42,8 +43,8 @@ accept-spec =
     (tie.spec
     wide-requires
     joined-requires
-    mul-a
-    element-set-from-a
-    add-q
+    mul-all
+    array-set-from-all
+    add-t12
     ticket-after-requires
     returns)

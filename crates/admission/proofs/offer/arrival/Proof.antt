@@ -14,19 +14,20 @@ wide-requires : tie.Need-wide-requires
 wide-requires c κs = search needs
 
 interference-of-requires : tie.Need-interference-of-requires
-interference-of-requires c κs = omega (arith, c .wide .ensures, few (c .before .before .before .pre .0))
+interference-of-requires c κs = omega (arith, c .wide .ensures, few (c .before .before .before .before .pre .0))
 
 due-tick-requires : tie.Need-due-tick-requires
 due-tick-requires c κs = search needs
 
-cast-t9 : tie.Need-cast-t9
+cast-t10 : tie.Need-cast-t10
 unfolding listed
-cast-t9 c = record { fits = omega (arith, c .due-tick .ensures, c .before .before .before .before .before .before .pre .1 .due-tick) }
+cast-t10 c = record { fits = omega (arith, c .due-tick .ensures, c .before .before .before .before .before .before .before .pre .1 .due-tick) }
 
 returns : tie.Need-returns
 unfolding arrival listed interferenceOf
 returns c =
     let set = c .before .before .interference-of .ensures in
+    let top = c .before .before .before .before .before .before .before in
     record {
       is-arrival = rw (set .0, c .before .before .before .wide .ensures, c .due-tick .ensures);
       sum-small = set .1;
@@ -34,4 +35,4 @@ returns c =
 
 pub arrival-spec : {M : Type 1} → statement M
 arrival-spec =
-    tie.close (tie.spec wide-requires interference-of-requires due-tick-requires cast-t9 returns)
+    tie.close (tie.spec wide-requires interference-of-requires due-tick-requires cast-t10 returns)

@@ -13,44 +13,44 @@ wide32-requires : tie.Need-wide32-requires
 wide32-requires c κs = search needs
 
 margin-requires : tie.Need-margin-requires
-margin-requires c κs = let top = c .before in arrival-tried (top .pre .0) (top .pre .1 .0) (c .wide32 .ensures) (top .pre .1 .1)
+margin-requires c κs = let top = c .before .before in arrival-tried (top .pre .0) (top .pre .1 .0) (c .before .wide32 .ensures) (top .pre .1 .1)
 
 wide-requires : tie.Need-wide-requires
 wide-requires c κs = search needs
 
 smallest-margin-requires : tie.Need-smallest-margin-requires
 smallest-margin-requires c κs =
-    let top = c .before .before .before in
-    (omega (arith, c .wide .ensures, few (top .pre .0)), live-tried (top .pre .0) (top .pre .1 .0) (c .before .before .wide32 .ensures) (c .wide .ensures))
+    let top = c .before .before .before .before in
+    (omega (arith, c .wide .ensures, few (top .pre .0)), live-tried (top .pre .0) (top .pre .1 .0) (c .before .before .before .wide32 .ensures) (c .wide .ensures))
 
 returns : tie.Need-returns
 returns c =
     let wide = c .before .before in
-    let n = wide .before .before .wide32 .ensures in
-    let own = toZ-ofZ {w = w32} (record { sfits = wide .before .margin .ok }) ∙ wide .before .margin .ensures ∙ own-margin _ _ n (wide .before .before .before .pre .1 .1 .is-arrival) in
+    let n = wide .before .before .before .wide32 .ensures in
+    let own = toZ-ofZ {w = w32} (record { sfits = wide .before .margin .ok }) ∙ wide .before .margin .ensures ∙ own-margin _ _ n (wide .before .before .before .before .pre .1 .1 .is-arrival) in
     let least = toZ-ofZ {w = w32} (record { sfits = c .before .smallest-margin .ok }) ∙ c .before .smallest-margin .ensures ∙ live-margins _ _ n (wide .wide .ensures) _ in
     late _ _ _ _ own least (c .if1 .taken)
 
 returns-2 : tie.Need-returns-2
 returns-2 c =
     let wide = c .before .before .before in
-    let n = wide .before .before .wide32 .ensures in
-    let own = toZ-ofZ {w = w32} (record { sfits = wide .before .margin .ok }) ∙ wide .before .margin .ensures ∙ own-margin _ _ n (wide .before .before .before .pre .1 .1 .is-arrival) in
+    let n = wide .before .before .before .wide32 .ensures in
+    let own = toZ-ofZ {w = w32} (record { sfits = wide .before .margin .ok }) ∙ wide .before .margin .ensures ∙ own-margin _ _ n (wide .before .before .before .before .pre .1 .1 .is-arrival) in
     let least = toZ-ofZ {w = w32} (record { sfits = c .before .before .smallest-margin .ok }) ∙ c .before .before .smallest-margin .ensures ∙ live-margins _ _ n (wide .wide .ensures) _ in
     delaying _ _ _ _ own least (c .before .if1 .left) (c .if2 .taken)
 
 bound-tick-requires : tie.Need-bound-tick-requires
 bound-tick-requires c κs =
-    let wide = c .before .before .before .before .before in
-    arrival-tried (wide .before .pre .0) (wide .before .pre .1 .0) (wide .wide32 .ensures) (wide .before .pre .1 .1)
+    let orders = c .before .before .before .before .before .before in
+    arrival-tried (orders .before .pre .0) (orders .before .pre .1 .0) (orders .wide32 .ensures) (orders .before .pre .1 .1)
 
 returns-3 : tie.Need-returns-3
 returns-3 c =
     let wide = c .before .before .before .before in
-    let n = wide .before .before .wide32 .ensures in
-    let own = toZ-ofZ {w = w32} (record { sfits = wide .before .margin .ok }) ∙ wide .before .margin .ensures ∙ own-margin _ _ n (wide .before .before .before .pre .1 .1 .is-arrival) in
+    let n = wide .before .before .before .wide32 .ensures in
+    let own = toZ-ofZ {w = w32} (record { sfits = wide .before .margin .ok }) ∙ wide .before .margin .ensures ∙ own-margin _ _ n (wide .before .before .before .before .pre .1 .1 .is-arrival) in
     let least = toZ-ofZ {w = w32} (record { sfits = c .before .before .before .smallest-margin .ok }) ∙ c .before .before .before .smallest-margin .ensures ∙ live-margins _ _ n (wide .wide .ensures) _ in
-    accepted _ _ _ _ own least (c .before .before .if1 .left) _ (c .bound-tick .ensures ∙ own-tick _ _ n (wide .before .before .before .pre .1 .1 .is-arrival)) (c .before .if2 .left)
+    accepted _ _ _ _ own least (c .before .before .if1 .left) _ (c .bound-tick .ensures ∙ own-tick _ _ n (wide .before .before .before .before .pre .1 .1 .is-arrival)) (c .before .if2 .left)
 
 pub tried-spec : {M : Type 1} → statement M
 tried-spec =
