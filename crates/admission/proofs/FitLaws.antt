@@ -5,12 +5,14 @@ use mathlib.Core.List.{List, [], _∷_}
 use Prim.Native.Nat.{ℕ, zero, suc, _+_, _-_, _*_, _≤_, _<_}
 use native.Mathlib.Omega.{arith}
 use lib.ListN.{getD, take}
+use mir.Syntax.{w32}
+use mir.Val.{SFits}
 use Rattle.model.specs.declared.Block.{Block}
 use Rattle.model.specs.declared.Order.{Order}
 use Rattle.model.specs.Limits.{maxCost}
 use Rattle.model.specs.Lists.{at, total, largest}
 use Rattle.model.specs.State.{State}
-use Rattle.model.specs.DelayBound.{delayBound, boundTick}
+use Rattle.model.specs.DelayBound.{delayBound, boundTick, margin}
 use Rattle.model.specs.Admission.{arrival, joinedBy}
 use Rattle.schedule.specs.Valid.{_∈_, cost}
 use Rattle.schedule.proofs.Laws.{leb-cases}
@@ -18,6 +20,7 @@ use Rattle.roundtrip.specs.SoundFacts.{maximum, SoundState}
 use Rattle.offers.specs.Considered.{Fitting}
 use Rattle.offers.proofs.Accept.{due-bounds, maxima-joined, maxima-own}
 use Rattle.margins.specs.Margins.{MarginFits}
+use Rattle.margins.proofs.SignLaws.{difference-fits}
 
 total-most : (l : List ℕ) (k : ℕ) → ((i : ℕ) → getD l i 0 ≤ maxCost) → total (take k l) ≤ maxCost * k
 unfolding total
@@ -29,6 +32,11 @@ largest-most : (l : List ℕ) → ((i : ℕ) → getD l i 0 ≤ maxCost) → lar
 unfolding largest
 largest-most [] h = omega arith
 largest-most (x ∷ l) h = omega (arith, h 0, largest-most l (λ i. h (suc i)))
+
+-- A margin that can be had fits.
+pub margin-fits : (n : ℕ) (o : Order) → MarginFits n o → SFits w32 (margin n o)
+unfolding margin
+margin-fits n o f = difference-fits (o .due) (boundTick n o) (f .above) (f .below)
 
 -- A figure that is in range at stations 1 to n and 0 beyond.
 anywhere : (n : ℕ) (f : ℕ → ℕ) → ((k : ℕ) → 1 ≤ k → k ≤ n → f k ≤ maxCost) → ((k : ℕ) → n < k → f k ≡ 0) → (i : ℕ) → f (suc i) ≤ maxCost

@@ -1,10 +1,10 @@
 -- What a state that a sound image says gives the code that carries it: in words of the code's own fields, which are the state's.
-use mathlib.Core.Path.{_≡_, refl, ap, subst}
+use mathlib.Core.Path.{_≡_, refl, ap, subst, _∙_}
 use mathlib.Core.List.{map}
 use Prim.Native.Nat.{ℕ, _+_, _≤_, _<_}
 use native.Mathlib.Omega.{arith}
 use lib.ListN.{length, take}
-use lib.IntN.{ℤ}
+use lib.IntN.{pos}
 use Rattle.model.specs.declared.Block.{Block}
 use Rattle.model.specs.declared.Order.{Order}
 use Rattle.model.specs.Limits.{maxLive}
@@ -15,8 +15,10 @@ use Rattle.schedule.specs.Valid.{_∈_}
 use Rattle.image.specs.declared.Pipeline.{Pipeline}
 use Rattle.image.specs.Pipeline.{listed, padded}
 use Rattle.offers.specs.Considered.{Fitting}
-use Rattle.margins.specs.Margins.{MarginFits}
-use Rattle.admission.specs.Answers.{SoundPipeline, Arrives}
+use Rattle.margins.specs.declared.Tried.{Tried}
+use Rattle.margins.specs.Margins.{MarginFits, Tries}
+use Rattle.admission.specs.Decision.{arrivalWith}
+use Rattle.admission.specs.Answers.{SoundPipeline}
 use Rattle.admission.proofs.FitLaws.{arrival-fits, joined-fits}
 
 module _ {p : Pipeline} (ok : SoundPipeline p) where
@@ -28,10 +30,10 @@ module _ {p : Pipeline} (ok : SoundPipeline p) where
   few = omega (arith, live-is, ok .sound .facts .live)
 
   module _ {b : Block} (f : Fitting (listed p) b) {n : ℕ} (n-is : n ≡ p .n) where
-    pub arrival-tried : {a : Order} → Arrives (listed p) b a → MarginFits n a
+    pub arrival-tried : {a : Order} → a ≡ arrival (listed p) b → a .sum < 2162688 → MarginFits n a
     unfolding listed
-    arrival-tried r =
-        rw (n-is, r .is-arrival) (arrival-fits (listed p) b (ok .sound .facts) f (subst (λ (o : Order). o .sum < 2162688) (r .is-arrival) (r .sum-small)))
+    arrival-tried e small =
+        rw (n-is, e) (arrival-fits (listed p) b (ok .sound .facts) f (subst (λ (o : Order). o .sum < 2162688) e small))
 
     pub live-tried : {live : ℕ} → live ≡ p .live → (o : Order) → o ∈ take live (p .orders) → MarginFits n (joinedBy b o)
     unfolding listed
@@ -42,16 +44,12 @@ module _ {p : Pipeline} (ok : SoundPipeline p) where
   unfolding boundTick delayBound joinedBy
   sums-fit f e o m = omega (arith, live-tried f refl e o m .tick)
 
--- The margins, as the code works them out.
-module _ (p : Pipeline) (b : Block) {n : ℕ} (n-is : n ≡ p .n) where
-  pub own-margin : {a : Order} → a ≡ arrival (listed p) b → margin n a ≡ margin (listed p .n) (arrival (listed p) b)
-  unfolding listed
-  own-margin e = rw (n-is, e)
+-- What the code works out of a state is what the definitions say of it.
+module _ (p : Pipeline) (b : Block) {n live : ℕ} (n-is : n ≡ p .n) (live-is : live ≡ p .live) {t : Tried} (r : Tries n b (take live (p .orders)) t) where
+  pub arrival-is : arrivalWith (p .next) (p .clock) b (t .sum) (t .maxima) ≡ arrival (listed p) b
+  unfolding arrivalWith arrival listed
+  arrival-is = rw (r .sum-is, r .maxima-is, live-is)
 
-  pub own-tick : {a : Order} → a ≡ arrival (listed p) b → boundTick n a ≡ boundTick (listed p .n) (arrival (listed p) b)
-  unfolding listed
-  own-tick e = rw (n-is, e)
-
-  pub live-margins : {live : ℕ} → live ≡ p .live → (own : ℤ) → smallest own (map (margin n) (map (joinedBy b) (take live (p .orders)))) ≡ smallest own (map (margin (listed p .n)) (joinedLive (listed p) b))
+  pub others-are : t .least ≡ smallest (pos 2147483647) (map (margin (listed p .n)) (joinedLive (listed p) b))
   unfolding listed joinedLive
-  live-margins e own = rw (n-is, e)
+  others-are = r .least-is ∙ rw (n-is, live-is)

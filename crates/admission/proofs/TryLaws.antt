@@ -8,6 +8,8 @@ use lib.ListN.{drop}
 use lib.IntN.{ℤ, pos, negsuc, _-ℤ_}
 use lib.Signed.{ltZ}
 use lib.Dec.{leb, ltb}
+use mir.Syntax.{w32}
+use mir.Val.{SFits}
 use borrow.Author.Tests.{le-ltb, lt-ltb, le-leb, lt-leb, ltb-true, ltb-false}
 use Rattle.model.specs.declared.Block.{Block}
 use Rattle.model.specs.declared.Order.{Order}
@@ -17,8 +19,10 @@ use Rattle.model.specs.DelayBound.{boundTick, onTime, margin}
 use Rattle.model.specs.Questions.{firstNo}
 use Rattle.model.specs.Admission.{arrival, joinedLive, smallest, smallestMargin, counterQuestions, offerAnswer, quoteAnswer}
 use Rattle.lists.proofs.Tests.{or-false}
+use Rattle.margins.proofs.LeastLaws.{smallest-joined, below-largest}
 use Rattle.admission.specs.declared.decision.Decision.{Decision}
 use Rattle.admission.specs.declared.decision.Decision.the-variants.{Accepted, Late, Delaying}
+use Rattle.admission.specs.Decision.{decisionOf}
 use Rattle.admission.specs.Answers.{Decides}
 
 below-zero : (due tick : ℕ) → ltZ (pos due -ℤ pos tick) (pos 0) ≡ not (leb tick due)
@@ -61,29 +65,38 @@ flip true t e = ap not e
 flip false t e = ap not e
 
 -- The decision by the two margins.
-module _ (s : State) (b : Block) (own least : ℤ) (own-is : own ≡ margin (s .n) (arrival s b)) (least-is : least ≡ smallest own (map (margin (s .n)) (joinedLive s b))) where
+module _ (s : State) (b : Block) (others : ℤ) (others-are : others ≡ smallest (pos 2147483647) (map (margin (s .n)) (joinedLive s b))) (fits : SFits w32 (margin (s .n) (arrival s b))) where
+  own : ℤ
+  own = margin (s .n) (arrival s b)
+
+  least : ℤ
+  least = smallest (margin (s .n) (arrival s b)) (others ∷ [])
+
   smallest-is : least ≡ smallestMargin s b
-  unfolding smallestMargin
-  smallest-is = least-is ∙ ap (λ (m : ℤ). smallest m (map (margin (s .n)) (joinedLive s b))) own-is
+  unfolding least smallestMargin
+  smallest-is =
+      ap (λ (m : ℤ). smallest (margin (s .n) (arrival s b)) (m ∷ [])) others-are
+      ∙ smallest-joined (margin (s .n) (arrival s b)) (pos 2147483647) (map (margin (s .n)) (joinedLive s b)) (below-largest (margin (s .n) (arrival s b)) fits)
 
   -- Question 11 by the arrival's margin, and 12 by the smallest.
   own-time : (t : Bool) → ltZ own (pos 0) ≡ t → onTime (s .n) (arrival s b) ≡ not t
-  own-time t e = flip (onTime (s .n) (arrival s b)) t (sym (margin-sign (s .n) (arrival s b)) ∙ sym (ap (λ (m : ℤ). ltZ m (pos 0)) own-is) ∙ e)
+  unfolding own
+  own-time t e = flip (onTime (s .n) (arrival s b)) t (sym (margin-sign (s .n) (arrival s b)) ∙ e)
 
   live-time : (t : Bool) → ltZ own (pos 0) ≡ false → ltZ least (pos 0) ≡ t → all (onTime (s .n)) (joinedLive s b) ≡ not t
+  unfolding own smallestMargin
   live-time t p e =
       flip (all (onTime (s .n)) (joinedLive s b)) t
-      (sym (sign-smallest (s .n) own (joinedLive s b) ∙ ap (λ (x : Bool). x || not (all (onTime (s .n)) (joinedLive s b))) p) ∙ sym (ap (λ (m : ℤ). ltZ m (pos 0)) least-is) ∙ e)
+      (sym (sign-smallest (s .n) own (joinedLive s b) ∙ ap (λ (x : Bool). x || not (all (onTime (s .n)) (joinedLive s b))) p) ∙ sym (ap (λ (m : ℤ). ltZ m (pos 0)) smallest-is) ∙ e)
 
-  pub late : ltZ own (pos 0) ≡ true → Decides (drop 3 (counterQuestions s b)) s b (Late least)
-  unfolding counterQuestions firstNo offerAnswer quoteAnswer
-  late p = record { number-is = rw (own-time true p); offered = rw smallest-is; quoted = rw smallest-is }
+  abbrev Last : Decision → Type 0
+  Last d = Decides (drop 3 (counterQuestions s b)) s b d
 
-  module _ (p : ltZ own (pos 0) ≡ false) where
-    pub delaying : ltZ least (pos 0) ≡ true → Decides (drop 3 (counterQuestions s b)) s b (Delaying least)
-    unfolding counterQuestions firstNo offerAnswer quoteAnswer
-    delaying q = record { number-is = rw (own-time false p, live-time true p q); offered = rw smallest-is; quoted = rw smallest-is }
-
-    pub accepted : (tick : ℕ) → tick ≡ boundTick (s .n) (arrival s b) → ltZ least (pos 0) ≡ false → Decides (drop 3 (counterQuestions s b)) s b (Accepted (record { tick = tick; margin = least }))
-    unfolding counterQuestions firstNo offerAnswer quoteAnswer
-    accepted tick t q = record { number-is = rw (own-time false p, live-time false p q); offered = rw (t, smallest-is); quoted = rw (t, smallest-is) }
+  pub decides : Last (decisionOf (s .n) (arrival s b) others)
+  unfolding own least decisionOf counterQuestions firstNo offerAnswer quoteAnswer
+  decides = go (ltZ own (pos 0)) (ltZ least (pos 0)) refl refl
+    where
+      go : (t u : Bool) → ltZ own (pos 0) ≡ t → ltZ least (pos 0) ≡ u → Last (cond t (Late least) (cond u (Delaying least) (Accepted (record { tick = boundTick (s .n) (arrival s b); margin = least }))))
+      go true u p q = record { number-is = rw (own-time true p); offered = rw smallest-is; quoted = rw smallest-is }
+      go false true p q = record { number-is = rw (own-time false p, live-time true p q); offered = rw smallest-is; quoted = rw smallest-is }
+      go false false p q = record { number-is = rw (own-time false p, live-time false p q); offered = rw smallest-is; quoted = rw smallest-is }

@@ -1,9 +1,7 @@
 -- What is asked of a state that an order is offered to, and what an offer's answer says.
 use mathlib.Core.Path.{_≡_}
 use mathlib.Core.List.{List}
-use Prim.Native.Nat.{_<_}
 use Rattle.model.specs.declared.Block.{Block}
-use Rattle.model.specs.declared.Order.{Order}
 use Rattle.model.specs.State.{State}
 use Rattle.model.specs.Questions.{Question, firstNo}
 use Rattle.model.specs.Admission.{arrival, offerAnswer, quoteAnswer}
@@ -18,11 +16,6 @@ use Rattle.admission.specs.Decision.{numberOf, answerOf}
 pub record SoundPipeline (p : Pipeline) : Type 0 where
   pub whole : p ≡ padded (listed p)
   pub sound : SoundInRange (listed p)
-
--- The arrival, and a bound of its sum by the sizes of its parts: 33 largest costs of 16 bits.
-pub record Arrives (s : State) (b : Block) (a : Order) : Type 0 where
-  pub is-arrival : a ≡ arrival s b
-  pub sum-small : a .sum < 2162688
 
 -- The first "no" among some questions, and what offer and quote give with it.
 pub record Decides (questions : List Question) (s : State) (b : Block) (d : Decision) : Type 0 where

@@ -1,7 +1,14 @@
 -- Document 01's number and values for each answer to an offer.
+use mathlib.Core.Bool.{cond}
+use mathlib.Core.List.{List, [], _∷_}
 use Prim.Native.Nat.{ℕ}
-use lib.IntN.{pos}
+use lib.IntN.{ℤ, pos}
+use lib.Signed.{ltZ}
+use Rattle.model.specs.declared.Block.{Block}
+use Rattle.model.specs.declared.Order.{Order}
+use Rattle.model.specs.DelayBound.{boundTick, margin}
 use Rattle.model.specs.Questions.{Answer, zeros}
+use Rattle.model.specs.Admission.{dueOf, smallest}
 use Rattle.admission.specs.declared.decision.Figures.{Figures}
 use Rattle.admission.specs.declared.decision.Reply.{Reply}
 use Rattle.admission.specs.declared.decision.Decision.{Decision}
@@ -32,3 +39,15 @@ answerOf ticket (Delaying margin) = record { ticket = 0; tick = 0; margin = marg
 -- Both, as the code has them.
 abbrev pub replyOf : ℕ → Decision → Reply
 replyOf ticket d = let a = answerOf ticket d in record { number = numberOf d; ticket = a .ticket; tick = a .tick; margin = a .margin }
+
+-- The arrival's record, by its ticket, the clock and its interference set: `arrival` of the state that has them.
+unfoldable pub arrivalWith : ℕ → ℕ → Block → ℕ → List ℕ → Order
+arrivalWith ticket clock b sum maxima = record { ticket = ticket; accepted = clock; due = dueOf clock b; sum = sum; station = 1; ranks = b .ranks; costs = b .costs; maxima = maxima }
+
+-- Questions 11 and 12 by the sign of the arrival's margin and of the smallest over it and the live orders.
+unfoldable pub decisionOf : ℕ → Order → ℤ → Decision
+decisionOf n a live =
+    let least = smallest (margin n a) (live ∷ []) in
+    cond (ltZ (margin n a) (pos 0)) (Late least)
+    (cond (ltZ least (pos 0)) (Delaying least)
+    (Accepted (record { tick = boundTick n a; margin = least })))

@@ -2,18 +2,23 @@
 ghost use mathlib.Core.Path.{_≡_};
 ghost use mathlib.Core.List.{_++_};
 ghost use lib.ListN.{drop};
-ghost use Rattle.model.specs.Admission.{blockQuestions, counterQuestions};
+ghost use Prim.Native.Nat.{_≤_};
+ghost use Rattle.model.specs.Limits.{lastTick};
+ghost use Rattle.model.specs.Admission.{dueOf, blockQuestions, counterQuestions};
 ghost use Rattle.image.specs.Pipeline.{listed, unused};
 ghost use Rattle.offers.specs.Considered.{Fitting};
-ghost use Rattle.admission.specs.Answers.{SoundPipeline, Arrives, Decides, Offers};
+ghost use Rattle.margins.specs.Margins.{MarginFits};
+ghost use Rattle.admission.specs.Decision.{arrivalWith, decisionOf};
+ghost use Rattle.admission.specs.Answers.{SoundPipeline, Offers};
 use super::decision::Decision;
 use super::decision::Figures;
 use image::Pipeline;
 use image::wide;
-use interference::interference_of;
+use margins::Tried;
 use margins::bound_tick;
 use margins::margin;
-use margins::smallest_margin;
+use margins::smaller;
+use margins::try_all;
 use model::Block;
 use model::Order;
 use model::limits::LAST_TICK;
@@ -39,23 +44,20 @@ fn wide64(x: u32) -> u64
     x as u64
 }
 
-// The arrival (document 01: newcomer), as it would be accepted now. Neither a ticket that was given before nor stored maxima
-// in the place of the live orders' costs meets the promise.
-fn arrival(p: Pipeline, b: Block) -> Order
-    requires { ⌜ SoundPipeline p ⌝ }
-    requires { ⌜ Fitting (listed p) b ⌝ }
-    ensures { λ r. ⌜ Arrives (listed p) b r ⌝ }
+// The arrival (document 01: newcomer), as it would be accepted now. Neither a ticket that was given before nor a due tick of
+// the due-in alone meets the promise.
+fn arrival(ticket: u32, clock: u32, b: Block, t: Tried) -> Order
+    requires { ⌜ dueOf clock b ≤ lastTick ⌝ }
+    ensures { λ r. ⌜ r ≡ arrivalWith ticket clock b (t .sum) (t .maxima) ⌝ }
 {
-    let orders = p.orders;
     let ranks = b.ranks;
     let costs = b.costs;
-    let set = interference_of(costs, orders, wide(p.live));
-    let maxima = set.maxima;
+    let maxima = t.maxima;
     Order {
-        ticket: p.next,
-        accepted: p.clock,
-        due: due_tick(p.clock, b) as u32,
-        sum: set.sum,
+        ticket: ticket,
+        accepted: clock,
+        due: due_tick(clock, b) as u32,
+        sum: t.sum,
         station: 1,
         ranks: ranks,
         costs: costs,
@@ -63,17 +65,14 @@ fn arrival(p: Pipeline, b: Block) -> Order
     }
 }
 
-// Questions 11 and 12, the last two: every live order is tried with the arrival. Neither 12 for an arrival that is late
-// itself nor the margin of the arrival alone meets the promise.
-fn tried(p: Pipeline, b: Block, a: Order) -> Decision
-    requires { ⌜ SoundPipeline p ⌝ }
-    requires { ⌜ Fitting (listed p) b × Arrives (listed p) b a ⌝ }
-    ensures { λ r. ⌜ Decides (drop 3 (counterQuestions (listed p) b)) (listed p) b r ⌝ }
+// Questions 11 and 12, the last two, by the arrival's margin and the smallest of the live orders'. Neither 12 for an arrival
+// that is late itself nor the margin of the arrival alone meets the promise.
+fn decide(n: u32, a: Order, others: i32) -> Decision
+    requires { ⌜ MarginFits n a ⌝ }
+    ensures { λ r. ⌜ r ≡ decisionOf n a others ⌝ }
 {
-    let n = wide32(p.n);
-    let orders = p.orders;
     let own = margin(n, a);
-    let least = smallest_margin(n, own, b, orders, wide(p.live));
+    let least = smaller(own, others);
     if own < 0 {
         return Decision::Late(least);
     }
@@ -104,13 +103,17 @@ fn declined(decision: Decision) -> Offered
     }
 }
 
+// Questions 11 and 12 of a state: every live order is tried with the arrival.
 fn answered(p: Pipeline, b: Block) -> Offered
     requires { ⌜ SoundPipeline p ⌝ }
     requires { ⌜ Fitting (listed p) b ⌝ }
     ensures { λ r. ⌜ Offers (drop 3 (counterQuestions (listed p) b)) (listed p) b r ⌝ }
 {
-    let a = arrival(p, b);
-    let decision = tried(p, b, a);
+    let n = wide32(p.n);
+    let orders = p.orders;
+    let t = try_all(n, b, orders, wide(p.live));
+    let a = arrival(p.next, p.clock, b, t);
+    let decision = decide(n, a, t.least);
     Offered {
         decision: decision,
         arrival: a,

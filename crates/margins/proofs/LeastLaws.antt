@@ -6,6 +6,9 @@ use Prim.Native.Nat.{ℕ, _+_}
 use native.Mathlib.Omega.{arith}
 use lib.IntN.{ℤ, pos, negsuc}
 use lib.Signed.{ltZ}
+use lib.Dec.{ltb}
+use mir.Syntax.{w32}
+use mir.Val.{SFits}
 use borrow.Author.Tests.{lt-ltb, le-ltb, ltb-true, ltb-false}
 use Rattle.model.specs.Lists.{upward}
 use Rattle.model.specs.Admission.{smallest}
@@ -57,3 +60,18 @@ smallest-next a f i = sym (ap (smallest a) (upward-more i f) ∙ smallest-last a
 
 pub smallest-more : (a : ℤ) (f : ℕ → ℤ) (i : ℕ) {r x y : ℤ} → x ≡ smallest a (upward 0 i f) → y ≡ f i → r ≡ smallest x (y ∷ []) → r ≡ smallest a (upward 0 (i + 1) f)
 smallest-more a f i p q e = e ∙ rw (p, q) (smallest-next a f i)
+
+-- The smallest of a margin and of others: these may be started from any number that is not below it.
+pub smallest-joined : (own top : ℤ) (l : List ℤ) → smallest own (top ∷ []) ≡ own → smallest own (smallest top l ∷ []) ≡ smallest own l
+unfolding smallest
+smallest-joined own top [] e = e
+smallest-joined own top (b ∷ l) e = least-assoc own top (smallest b l) ∙ ap (λ (m : ℤ). least m (smallest b l)) e
+
+pub below-largest : (z : ℤ) → SFits w32 z → smallest z (pos 2147483647 ∷ []) ≡ z
+unfolding smallest
+below-largest (negsuc n) f = refl
+below-largest (pos n) f = go (ltb n 2147483647) refl
+  where
+    go : (t : Bool) → ltb n 2147483647 ≡ t → cond t (pos n) (pos 2147483647) ≡ pos n
+    go true e = refl
+    go false e = ap pos (omega (arith, ltb-false n 2147483647 e, f .sfits))

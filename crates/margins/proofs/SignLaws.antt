@@ -32,8 +32,8 @@ module _ (a b : ℕ) (above : a < b + 2147483648) (below : b ≤ a + 2147483648)
       go zero q = omega (arith, q, above)
       go (suc c) q = by-test c q (ltb a (suc c)) refl
 
-  fits : SFits w32 (pos a -ℤ pos b)
-  fits = record { sfits = near }
+  pub difference-fits : SFits w32 (pos a -ℤ pos b)
+  difference-fits = record { sfits = near }
 
   module _ (x y : ℤ) (x-is : x ≡ pos a) (y-is : y ≡ pos b) (short : a < 4294967296) (short′ : b < 4294967296) where
     tick-read : (z : ℤ) (n : ℕ) → z ≡ pos n → n < 4294967296 → kept w64 z ≡ pos n
@@ -43,13 +43,13 @@ module _ (a b : ℕ) (above : a < b + 2147483648) (below : b ≤ a + 2147483648)
     made = ap (λ (z : ℤ). z -ℤ kept w64 y) (tick-read x a x-is short) ∙ ap (λ (z : ℤ). pos a -ℤ z) (tick-read y b y-is short′)
 
     pub made-fits : SFits w64 (kept w64 x -ℤ kept w64 y)
-    made-fits = subst (SFits w64) (sym made) (sfits-widen {w = w32} tt fits)
+    made-fits = subst (SFits w64) (sym made) (sfits-widen {w = w32} tt difference-fits)
 
     made-read : kept w64 (kept w64 x -ℤ kept w64 y) ≡ pos a -ℤ pos b
     made-read = toZ-ofZ {w = w64} made-fits ∙ made
 
     pub cast-fits : SFits w32 (kept w64 (kept w64 x -ℤ kept w64 y))
-    cast-fits = subst (SFits w32) (sym made-read) fits
+    cast-fits = subst (SFits w32) (sym made-read) difference-fits
 
     pub cast-read : kept w32 (kept w64 (kept w64 x -ℤ kept w64 y)) ≡ pos a -ℤ pos b
     cast-read = toZ-ofZ {w = w32} cast-fits ∙ made-read

@@ -11,8 +11,9 @@ ghost use Rattle.model.specs.DelayBound.{boundTick};
 ghost use Rattle.model.specs.DelayBound as delay;
 ghost use Rattle.model.specs.Admission.{joinedBy, smallest};
 ghost use Rattle.schedule.specs.Valid.{_∈_};
-ghost use Rattle.margins.specs.Margins.{MarginFits};
+ghost use Rattle.margins.specs.Margins.{MarginFits, Tries};
 use interference::joined_by;
+use interference::larger_row;
 use model::Block;
 use model::Order;
 
@@ -40,29 +41,51 @@ pub fn margin(n: u32, o: Order) -> i32
     (signed(o.due) - signed(bound_tick(n, o))) as i32
 }
 
-fn smaller(a: i32, b: i32) -> i32
+// The smaller of two margins.
+pub fn smaller(a: i32, b: i32) -> i32
     ensures { λ r. ⌜ r ≡ smallest a (b ∷ []) ⌝ }
 {
     if a < b { a } else { b }
 }
 
-// The smallest of the arrival's margin and those of the live orders, each tried with the arrival in its interference set.
-// Neither the arrival's margin alone nor the first live order's left out meets the promise.
-pub fn smallest_margin(n: u32, own: i32, b: Block, orders: [Order; 32], live: usize) -> i32
+// What the live orders come to with an arrival: its interference set, and their smallest margin.
+pub struct Tried {
+    pub sum: u32,
+    pub maxima: [u16; 8],
+    pub least: i32,
+}
+
+// No margin is larger than this: the smallest over no order at all.
+const LARGEST_MARGIN: i32 = 2147483647;
+
+// Goes once over the live orders: the arrival's set is itself and them, by their own costs, and each of them is tried with
+// the arrival in its own set. Neither stored maxima in the place of the live orders' costs, nor a live order left untried,
+// meets the promise.
+pub fn try_all(n: u32, b: Block, orders: [Order; 32], live: usize) -> Tried
     requires { ⌜ live ≤ maxLive ⌝ }
     requires { ⌜ ((o : order.Order) → o ∈ take live orders → MarginFits n (joinedBy b o)) ⌝ }
-    ensures { λ r. ⌜ r ≡ smallest own (map (delay.margin n) (map (joinedBy b) (take live orders))) ⌝ }
+    ensures { λ r. ⌜ Tries n b (take live orders) r ⌝ }
 {
     let costs = b.costs;
     let top = row_soundness::largest(costs);
-    let mut least = own;
+    let mut sum = top;
+    let mut maxima = costs;
+    let mut least = LARGEST_MARGIN;
     let mut i: usize = 0;
     while i < live {
         let o = orders[i];
+        let own = o.costs;
+        sum = row_soundness::largest(own) + sum;
+        let more = larger_row(own, maxima);
+        maxima = more;
         least = smaller(least, margin(n, joined_by(b, top, o)));
         i += 1;
     }
-    least
+    Tried {
+        sum: sum,
+        maxima: maxima,
+        least: least,
+    }
 }
 
 // A margin's 32 bits, as the reply has them. Neither a margin below zero without its sign nor 0 for it meets the promise.

@@ -1,0 +1,76 @@
+-- The live orders are tried, and what comes out decides.
+use mathlib.Core.Path.{_≡_, sym, ap, subst, _∙_}
+use Prim.Native.Nat.{_<_}
+use native.Mathlib.Omega.{arith}
+use mir.Syntax.{w32}
+use mir.Facts.{toZ-ofZ}
+use borrow.Author.Needs.{needs}
+use Rattle.model.specs.declared.Order.{Order}
+use Rattle.model.specs.Admission as counter
+use Rattle.image.specs.Pipeline.{listed}
+use Rattle.margins.specs.Margins.{MarginFits}
+use Rattle.admission.specs.Decision.{arrivalWith, decisionOf}
+use Rattle.admission.specs.Answers.{Decides}
+use Rattle.admission.proofs.PipelineLaws.{few, arrival-tried, live-tried, arrival-is, others-are}
+use Rattle.admission.proofs.FitLaws.{margin-fits}
+use Rattle.admission.proofs.TryLaws.{decides}
+use Rattle.admission.proofs.offer.answered.Statement.{statement}
+use Rattle.admission.proofs.offer.answered.Tie as tie
+
+wide32-requires : tie.Need-wide32-requires
+wide32-requires c κs = search needs
+
+wide-requires : tie.Need-wide-requires
+wide-requires c κs = search needs
+
+try-all-requires : tie.Need-try-all-requires
+try-all-requires c κs =
+    let top = c .before .before .before in
+    (omega (arith, c .wide .ensures, few (top .pre .0)), live-tried (top .pre .0) (top .pre .1) (c .before .before .wide32 .ensures) (c .wide .ensures))
+
+arrival-requires : tie.Need-arrival-requires
+unfolding listed
+arrival-requires c κs = c .before .before .before .before .pre .1 .due-tick
+
+-- The arrival is the state's, and its margin fits.
+is-arrival : (c : tie.After-arrival) → let top = c .before .before .before .before .before in c .arrival .result ≡ counter.arrival (listed (top .args .p)) (top .args .b)
+is-arrival c =
+    let tried = c .before in
+    let wide = tried .before in
+    c .arrival .ensures ∙ arrival-is _ _ (wide .before .before .wide32 .ensures) (wide .wide .ensures) (tried .try-all .ensures)
+
+fits : (c : tie.After-arrival) → MarginFits (c .before .before .before .before .wide32 .result) (c .arrival .result)
+unfolding arrivalWith
+fits c =
+    let tried = c .before in
+    let wide = tried .before in
+    let top = wide .before .before .before in
+    arrival-tried (top .pre .0) (top .pre .1) (wide .before .before .wide32 .ensures) (is-arrival c)
+    (subst (λ (o : Order). o .sum < 2162688) (sym (c .arrival .ensures)) (tried .try-all .ensures .sum-small))
+
+decide-requires : tie.Need-decide-requires
+decide-requires c κs = fits (c .before)
+
+returns : tie.Need-returns
+unfolding listed
+returns c =
+    let told = c .before in
+    let arrival = told .before in
+    let tried = arrival .before in
+    let wide = tried .before in
+    let top = wide .before .before .before in
+    let n = wide .before .before .wide32 .ensures in
+    let is = rw (n, is-arrival arrival, toZ-ofZ {w = w32} (record { sfits = told .struct-told .given .1 .1 .0 .1 })) at (c .decide .ensures) in
+    let own = margin-fits _ _ (rw (n, is-arrival arrival) at (fits arrival)) in
+    record { decides = subst (Decides _ _ _) (sym is) (decides _ _ _ (others-are _ _ n (wide .wide .ensures) (tried .try-all .ensures)) own); arrives = λ e. is-arrival arrival }
+
+pub answered-spec : {M : Type 1} → statement M
+answered-spec =
+    tie.close
+    (tie.spec
+    wide32-requires
+    wide-requires
+    try-all-requires
+    arrival-requires
+    decide-requires
+    returns)

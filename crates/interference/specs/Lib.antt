@@ -1,2 +1,0 @@
--- What is kept of an interference set.
-pub mod Interference
