@@ -37,7 +37,13 @@ fn quoted(image: &[u8], order: &[u8], reply: &mut [u8]) -> u32
     let offered = offer(decode(image), block_of(order));
     let decision = offered.decision;
     let given = reply_of(decision, 0);
-    put_reply(reply, given.number, given.ticket, given.tick, bits(given.margin));
+    put_reply(
+        reply,
+        given.number,
+        given.ticket,
+        given.tick,
+        bits(given.margin),
+    );
     given.number
 }
 
@@ -50,7 +56,13 @@ fn offered(image: &mut [u8], order: &[u8], reply: &mut [u8]) -> u32
     let offered = offer(p, b);
     let decision = offered.decision;
     let given = reply_of(decision, p.next);
-    put_reply(reply, given.number, given.ticket, given.tick, bits(given.margin));
+    put_reply(
+        reply,
+        given.number,
+        given.ticket,
+        given.tick,
+        bits(given.margin),
+    );
     if given.number == 0 {
         let arrival = offered.arrival;
         image_writer::encode(image, accept(p, b, arrival));

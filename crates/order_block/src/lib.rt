@@ -57,7 +57,11 @@ fn wide(x: u32) -> u64
 fn or_default(due_in: u32) -> u64
     ensures { λ r. ⌜ (r ≡ cond (isZero due_in) defaultDueIn due_in) × (r < 4294967296) ⌝ }
 {
-    if due_in == 0 { DEFAULT_DUE_IN } else { wide(due_in) }
+    if due_in == 0 {
+        DEFAULT_DUE_IN
+    } else {
+        wide(due_in)
+    }
 }
 
 // "0 stands for 18,000. Due tick = tick of acceptance + due-in." In 64 bits, since in 32 the sum can wrap. Neither the due-in

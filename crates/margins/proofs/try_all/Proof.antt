@@ -90,8 +90,7 @@ loop-again c =
     let top = k .before .before .before in
     let own : ℕ → List ℕ = λ j. getD (top .args .t3) j past .costs in
     let sum = row .before .largest2 .ensures in
-    let read = toZ-ofZ {w = w32} (record { sfits = c .before .margin .ok }) ∙ c .before .margin .ensures ∙ ap (delay.margin _) (c .before .before .joined-by .ensures) in
-    (
+    let read = toZ-ofZ {w = w32} (record { sfits = c .before .margin .ok }) ∙ c .before .margin .ensures ∙ ap (delay.margin _) (c .before .before .joined-by .ensures) in (
       omega arith,
       omega (arith, sum .1, inv .1),
       search needs,

@@ -69,8 +69,7 @@ loop-again : tie.Need-loop-again Inv-loop μ-loop
 loop-again c =
     let k = c .before .before .before in
     let orders = k .before .before .before .args .orders in
-    let long : length orders ≡ 32 = orders-long (k .before .before .before) in
-    (
+    let long : length orders ≡ 32 = orders-long (k .before .before .before) in (
       omega arith,
       simp length-set (k .loop .inv .1),
       replaced-next (joinedBy _) past orders _ (k .loop .i) _ (omega arith) (k .loop .inv .2) (c .joined-by .ensures ∙ ap (joinedBy _) (read k)),
