@@ -190,11 +190,15 @@ unfolding total
 total-snoc [] x = omega arith
 total-snoc (y ∷ a) x = omega (arith, total-snoc a x)
 
+-- Of a list by its entries: one more.
+pub total-upward : (n : ℕ) (f : ℕ → ℕ) → total (upward 0 (n + 1) f) ≡ total (upward 0 n f) + f n
+total-upward n f = rw (upward-more n f) (total-snoc (upward 0 n f) (f n))
+
 module _ (l : List ℕ) (k : ℕ) (h : k < length l) where
   pub largest-more : largest (take (k + 1) l) ≡ max (largest (take k l)) (getD l k 0)
   largest-more = rw (add-one, take-suc l k 0 h) (largest-snoc (take k l) (getD l k 0))
 
-  total-first : (n : ℕ) → total (take n (take (k + 1) l)) ≡ total (take n (take k l)) + cond (ltb k n) (getD l k 0) 0
+  pub total-first : (n : ℕ) → total (take n (take (k + 1) l)) ≡ total (take n (take k l)) + cond (ltb k n) (getD l k 0) 0
   total-first n =
       either (λ b. total (take n (take (k + 1) l)) ≡ total (take n (take k l)) + cond b (getD l k 0) 0) (ltb k n)
       (λ e.
