@@ -12,7 +12,7 @@ use lib.Seq.{take-nil, drop-nil, take-suc, take-all, take-take, length-take-le, 
 use lib.Dec.{leb, ltb}
 use borrow.Author.Tests.{ltb-true, ltb-false, leb-true, leb-false, lt-ltb, le-ltb, lt-leb, le-leb}
 use Rattle.model.specs.Lists.{within, total, largest, concat, all, any, numbered, allStations, upward}
-use Rattle.lists.proofs.Fills.{upward-more, concat-append, concat-one}
+use Rattle.lists.proofs.Fills.{length-upward, getD-upward, upward-more, concat-append, concat-one}
 
 pub and-true : (a : Bool) → (a && true) ≡ a
 and-true true = refl
@@ -37,6 +37,12 @@ or-assoc false b c = refl
 pub and-both : (a b : Bool) → (a && b) ≡ true → (a ≡ true) × (b ≡ true)
 and-both true b h = (refl, h)
 and-both false b h = (h, cc)
+
+pub and-middle : (a b c d : Bool) → (a && b && (c && d)) ≡ (a && c && (b && d))
+and-middle true true c d = refl
+and-middle true false true d = refl
+and-middle true false false d = refl
+and-middle false b c d = refl
 
 -- By the two cases of a test.
 pub either : (P : Bool → Type 0) (b : Bool) → (b ≡ true → P true) → (b ≡ false → P false) → P b
@@ -96,6 +102,20 @@ module _ {A : Type 0} (test : A → Bool) where
   -- Of a list by its entries: one more.
   pub all-upward : (n : ℕ) (f : ℕ → A) → all test (upward 0 (n + 1) f) ≡ (all test (upward 0 n f) && test (f n))
   all-upward n f = rw (upward-more n f) (all-more (upward 0 n f) (f n))
+
+  -- One that fails is enough.
+  pub all-at : (d : A) (l : List A) (i : ℕ) → i < length l → all test l ≡ true → test (getD l i d) ≡ true
+  unfolding all
+  all-at d [] i h e = absurd (let z : ⊥ = omega arith in z)
+  all-at d (x ∷ l) zero h e = and-both (test x) (all test l) e .0
+  all-at d (x ∷ l) (suc i) h e = all-at d l i (omega arith) (and-both (test x) (all test l) e .1)
+
+  pub one-fails : (n : ℕ) (f : ℕ → A) (i : ℕ) → i < n → test (f i) ≡ false → false ≡ all test (upward 0 n f)
+  one-fails n f i h e =
+      let there : getD (upward 0 n f) i (f i) ≡ f i = getD-upward n f i (f i) h in
+      either (λ b. false ≡ b) (all test (upward 0 n f))
+      (λ t. sym e ∙ ap test (sym there) ∙ all-at (f i) (upward 0 n f) i (omega (arith, length-upward 0 n f)) t)
+      (λ t. refl)
 
   -- The first n of a row: of none, and of one more.
   pub first-none : (n : ℕ) → true ≡ all test (take n [])

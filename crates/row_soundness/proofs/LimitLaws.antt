@@ -14,7 +14,8 @@ use borrow.Author.Tests.{ltb-true, ltb-false}
 use Rattle.model.specs.Lists.{total, upward}
 use Rattle.lists.proofs.Fills.{getD-upward, upward-same}
 use Rattle.lists.proofs.Tests.{either, total-none, total-first, total-upward}
-use Rattle.row_soundness.specs.Limits.{firstPlaces}
+use Rattle.row_soundness.specs.declared.limits.Limits.{Limits}
+use Rattle.row_soundness.specs.Limits.{firstPlaces, limitsOf, Made}
 
 -- Eight entries of eight times x and eight times 0, from that place on that leaves `count` times x.
 pub table-place : (x count k : ℕ) → count ≤ 8 → k < 8 → getD (replicate 8 x ++ replicate 8 0) (8 - count + k) 0 ≡ cond (ltb k count) x 0
@@ -30,6 +31,11 @@ table-place x count k h g =
 pub first-place : (count x k : ℕ) → k < 8 → getD (firstPlaces count x) k 0 ≡ cond (ltb k count) x 0
 unfolding firstPlaces
 first-place count x k h = getD-upward 8 (λ j. cond (ltb j count) x 0) k 0 h
+
+pub made : {l : Limits} {n : ℕ} → l ≡ limitsOf n → n ≤ 8 → Made l
+made {l} {n} e h =
+    let same : l .n ≡ n = ap (λ (m : Limits). m .n) e in
+    record { is = e ∙ ap limitsOf (sym same); stations = omega arith }
 
 -- Every bit of an entry or none, and the entries with every bit added up.
 masked : (b : Bool) (x : ℕ) → x < 65536 → bitAnd x (cond b 65535 0) ≡ cond b x 0

@@ -1,19 +1,19 @@
 // What may stand at each place of a row, as rows of numbers: a test of a row against them goes place by place in the same
 // way at every place, and a compiler takes eight places together.
 ghost use mathlib.Core.Path.{_≡_};
-ghost use Prim.Native.Nat.{_-_, _≤_, _<_};
+ghost use Prim.Native.Nat.{_-_, _≤_};
 ghost use lib.ListN.{take};
 ghost use Rattle.model.specs.Limits.{maxStations};
 ghost use Rattle.model.specs.Lists.{total};
-ghost use Rattle.row_soundness.specs.Limits.{firstPlaces, limitsOf};
+ghost use Rattle.row_soundness.specs.Limits.{firstPlaces, limitsOf, Made};
 use super::wide;
 use model::limits::MAX_COST;
 
 // For a pipeline of n stations.
 pub struct Limits {
     pub n: u32,
-    pub least: [u16; 8],   // of a cost: 1, and 0 beyond n
-    pub most: [u16; 8],    // of a maximum: 6,000, and 0 beyond n
+    pub least: [u16; 8], // of a cost: 1, and 0 beyond n
+    pub most: [u16; 8], // of a maximum: 6,000, and 0 beyond n
     pub counted: [u16; 8], // every bit of a maximum before n, which counts in the delay bound, and none from n on
 }
 
@@ -50,7 +50,7 @@ pub fn limits_of(n: u32) -> Limits
 
 // The entries of the stations before n, added up: `before_last`, with the places that count as a row.
 pub fn counted_total(l: Limits, maxima: [u16; 8]) -> u32
-    requires { ⌜ l ≡ limitsOf (l .n) ⌝ }
+    requires { ⌜ Made l ⌝ }
     ensures { λ r. ⌜ r ≡ total (take (l .n - 1) maxima) ⌝ }
 {
     let counted = l.counted;

@@ -1,6 +1,6 @@
 -- The entries so far with the bits that count, added up.
 use mathlib.Core.Path.{_≡_, refl, sym, ap, _∙_}
-use Prim.Native.Nat.{ℕ, _≤_, _-_, _*_, _<_}
+use Prim.Native.Nat.{ℕ, _≤_, _-_, _*_}
 use native.Mathlib.Omega.{arith}
 use lib.ListN.{length, getD}
 use lib.Bits.{bitAnd}
@@ -61,7 +61,7 @@ returns c =
     let long : length maxima ≡ 8 = search needs in
     let small : (j : ℕ) → Fits w16 (getD maxima j 0) = λ j. search needs in
     let e : c .before .loop .k ≡ 8 = omega arith in
-    let counted : top .args .l .counted ≡ firstPlaces (top .args .l .n - 1) 65535 = ap (λ (l : Limits). l .counted) (top .pre) in
+    let counted : top .args .l .counted ≡ firstPlaces (top .args .l .n - 1) 65535 = ap (λ (l : Limits). l .counted) (top .pre .is) in
     rw (e, counted) at (c .before .loop .inv .2) ∙ counted-is maxima (top .args .l .n - 1) long (λ j. small j .fits)
 
 pub counted-total-spec : {M : Type 1} → statement M
