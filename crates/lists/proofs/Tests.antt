@@ -7,11 +7,11 @@ use Prim.Native.Nat.{ℕ, zero, suc, _+_, _-_, _≤_, _<_, max}
 use native.Mathlib.Nat.{add-zero}
 use native.Mathlib.Numerals.{add-one}
 use native.Mathlib.Omega.{arith}
-use lib.ListN.{length, getD, take, drop, drop-of-length-le}
+use lib.ListN.{length, getD, take, drop, replicate, drop-of-length-le}
 use lib.Seq.{take-nil, drop-nil, take-suc, take-all, take-take, length-take-le, drop-append-le, ext-getD}
 use lib.Dec.{leb, ltb}
 use borrow.Author.Tests.{ltb-true, ltb-false, leb-true, leb-false, lt-ltb, le-ltb, lt-leb, le-leb}
-use Rattle.model.specs.Lists.{within, total, largest, concat, all, any, numbered, allStations, upward}
+use Rattle.model.specs.Lists.{within, isZero, total, largest, concat, all, any, numbered, allStations, upward}
 use Rattle.lists.proofs.Fills.{length-upward, getD-upward, upward-more, concat-append, concat-one}
 
 pub and-true : (a : Bool) → (a && true) ≡ a
@@ -129,6 +129,20 @@ module _ {A : Type 0} (test : A → Bool) where
       (λ e.
       let high : k < n = leb-false n k e in
       rw (used-more d l n k h high, used-same l n k h high) (all-more (take k l) (getD l k d)))
+
+-- Two tests of each entry.
+pub all-both : {A : Type 0} (p q : A → Bool) (l : List A) → all (λ x. p x && q x) l ≡ (all p l && all q l)
+unfolding all
+all-both p q [] = refl
+all-both p q (x ∷ l) = rw (all-both p q l) (and-middle (p x) (q x) (all p l) (all q l))
+
+-- Zeros are zero.
+pub zeros-zero : (n m : ℕ) → all isZero (drop n (replicate m 0)) ≡ true
+unfolding all
+zeros-zero zero zero = refl
+zeros-zero zero (suc m) = zeros-zero zero m
+zeros-zero (suc n) zero = refl
+zeros-zero (suc n) (suc m) = zeros-zero n m
 
 -- A test that does not look at the entries goes before.
 pub or-all : {A : Type 0} (b : Bool) (test : A → Bool) (l : List A) → (b || all test l) ≡ all (λ x. b || test x) l

@@ -13,20 +13,40 @@ use Rattle.model.specs.declared.Order.{Order}
 use Rattle.model.specs.Limits.{maxCost}
 use Rattle.model.specs.Lists.{at, all, isZero, total, largest, upward}
 use Rattle.model.specs.DelayBound.{onTime, boundTick, delayBound}
-use Rattle.model.specs.Soundness.{sumInRange, zeroBeyond}
-use Rattle.lists.proofs.Fills.{length-upward, getD-upward, upward-same}
+use Rattle.model.specs.Soundness.{dueInRange, stationInUse, costsInRange, maximaInRange, sumInRange, zeroBeyond, recordZeroBeyond}
+use Rattle.lists.proofs.Fills.{length-upward, getD-upward, upward-same, fill-end}
 use Rattle.lists.proofs.Tests.{either}
 use Rattle.lists.proofs.Overlays.{or-zero, zero-or}
 use Rattle.schedule.proofs.Laws.{at-largest}
 use Rattle.roundtrip.proofs.Tests.{Says, leb-says, eqb-says, and-says, in-words, entries-say}
 use Rattle.roundtrip.proofs.Clauses.{zero-beyond, costs-say, maxima-say}
-use Rattle.row_soundness.specs.Limits.{firstPlaces}
+use Rattle.row_soundness.specs.declared.limits.Limits.{Limits}
+use Rattle.row_soundness.specs.Limits.{firstPlaces, Made}
 use Rattle.row_soundness.proofs.LimitLaws.{first-place}
-use Rattle.record_soundness.specs.Record.{rowsHold}
+use Rattle.record_soundness.specs.Record.{ticksHold, rowsHold, recordHolds}
 
 -- Two tests of one fact.
 pub same-fact : {a b : Bool} {P : Type 0} → Says a P → Says b P → a ≡ b
 same-fact {a} {b} {P} p q = either (λ t. t ≡ b) a (λ e. sym (q .passes (p .tells e))) (λ e. either (λ t. false ≡ t) b (λ f. sym e ∙ p .passes (q .tells f)) (λ f. refl))
+
+itself : (b : Bool) → Says b (b ≡ true)
+itself b = record { tells = λ e. e; passes = λ e. e }
+
+-- The clauses by what is looked at.
+regrouped : (a d s c m u t r x y : Bool) → (a && d && s && c && m && u && t && (r && x && y)) ≡ (a && d && s && t && (c && m && u && x && y && r))
+regrouped a d s c m u t r x y =
+    sym
+    (same-fact
+    (and-says (and-says (and-says (and-says (itself a) (itself d)) (itself s)) (itself t)) (and-says (and-says (and-says (and-says (and-says (itself c) (itself m)) (itself u)) (itself x)) (itself y)) (itself r)))
+    (in-words
+    (and-says (and-says (and-says (and-says (and-says (and-says (and-says (itself a) (itself d)) (itself s)) (itself c)) (itself m)) (itself u)) (itself t)) (and-says (and-says (itself r) (itself x)) (itself y)))
+    (λ f. ((((f .0 .0 .0 .0 .0 .0 .0, f .0 .0 .0 .0 .0 .0 .1), f .0 .0 .0 .0 .0 .1), f .0 .1), (((((f .0 .0 .0 .0 .1, f .0 .0 .0 .1), f .0 .0 .1), f .1 .0 .1), f .1 .1), f .1 .0 .0)))
+    (λ f. (((((((f .0 .0 .0 .0, f .0 .0 .0 .1), f .0 .0 .1), f .1 .0 .0 .0 .0 .0), f .1 .0 .0 .0 .0 .1), f .1 .0 .0 .0 .1), f .0 .1), ((f .1 .1, f .1 .0 .0 .1), f .1 .0 .1)))))
+
+pub holds-is : (n clock : ℕ) (o : Order) → recordHolds n clock o ≡ (ticksHold n clock o && (rowsHold n o && zeroBeyond n (o .ranks)))
+unfolding recordHolds ticksHold rowsHold recordZeroBeyond
+holds-is n clock o =
+    regrouped (leb (o .accepted) clock) (dueInRange o) (stationInUse n o) (costsInRange n (o .costs)) (maximaInRange n o) (sumInRange o) (onTime n o) (zeroBeyond n (o .ranks)) (zeroBeyond n (o .costs)) (zeroBeyond n (o .maxima))
 
 -- "the order on time", by what is left to the due tick.
 pub on-time-is : (n : ℕ) (o : Order) {rest span left : ℕ} → span ≡ o .due - o .accepted → rest ≡ total (take (n - 1) (o .maxima)) → left ≡ span - o .sum
@@ -61,6 +81,12 @@ module _ (a b : List ℕ) (p : length a ≡ 8) (q : length b ≡ 8) where
       (in-words (and-says (zero-beyond n a) (zero-beyond n b))
       (λ f k h. overlaid-at k ∙ zero-or (at 0 a k) (at 0 b k) (f .0 k h) (f .1 k h))
       (λ g. (λ k h. or-zero (at 0 a k) (at 0 b k) (sym (overlaid-at k) ∙ g k h) .0, λ k h. or-zero (at 0 a k) (at 0 b k) (sym (overlaid-at k) ∙ g k h) .1)))
+
+-- What a place has of flaws: those so far, and by how much a cost is below the least, above its maximum or above the sum, and a maximum above the most.
+abbrev pub gathered : List ℕ → List ℕ → List ℕ → List ℕ → List ℕ → ℕ → ℕ → ℕ
+gathered flaws least most costs maxima sum i =
+    bitOr (getD flaws i 0)
+    (bitOr (bitOr (bitOr (getD least i 0 - getD costs i 0) (getD costs i 0 - getD maxima i 0)) (getD maxima i 0 - getD most i 0)) (getD costs i 0 - sum))
 
 -- The largest entry is at most x where every entry is.
 largest-under : (l : List ℕ) (x : ℕ) → ((i : ℕ) → getD l i 0 ≤ x) → largest l ≤ x
@@ -203,7 +229,7 @@ module _ (n : ℕ) (o : Order) (fits : n ≤ 8) (long : length (o .costs) ≡ 8)
       (λ f. ((((costs-there f, maxima-there f), sum-there f), λ k h. zeros-there f k h .0), λ k h. zeros-there f k h .1))
 
   -- The flaws so far with those of the order.
-  pub flaws-more : (flaws : List ℕ) → length flaws ≡ 8 → all isZero (upward 0 8 (λ i. bitOr (getD flaws i 0) (flaw i))) ≡ (all isZero flaws && rowsHold n o)
+  flaws-more : (flaws : List ℕ) → length flaws ≡ 8 → all isZero (upward 0 8 (λ i. bitOr (getD flaws i 0) (flaw i))) ≡ (all isZero flaws && rowsHold n o)
   unfolding zeroBeyond
   flaws-more flaws eight =
       let own = upward 0 8 flaw in
@@ -211,3 +237,13 @@ module _ (n : ℕ) (o : Order) (fits : n ≤ 8) (long : length (o .costs) ≡ 8)
       (upward-same 8 (λ i. bitOr (getD flaws i 0) (flaw i)) (λ i. bitOr (getD flaws i 0) (getD own i 0)) (λ i h. rw (getD-upward 8 flaw i 0 h)))
       ∙ overlaid-beyond flaws own eight (length-upward 0 8 flaw) 0
       ∙ ap (λ t. all isZero flaws && t) (same-fact row-says rows-say)
+
+pub gathered-all : {l : Limits} → Made l → (o : Order) → length (o .costs) ≡ 8 → length (o .maxima) ≡ 8 → ((i : ℕ) → getD (o .costs) i 0 < 65536)
+    → (flaws row : List ℕ) {sum : ℕ} → length flaws ≡ 8 → sum ≡ min (o .sum) 65535 → length row ≡ 8
+    → take 8 row ≡ upward 0 8 (gathered flaws (l .least) (l .most) (o .costs) (o .maxima) sum)
+    → all isZero row ≡ (all isZero flaws && rowsHold (l .n) o)
+gathered-all {l} w o long high small flaws row {sum} eight e whole filled =
+    let least : l .least ≡ firstPlaces (l .n) 1 = ap (λ (m : Limits). m .least) (w .is) in
+    let most : l .most ≡ firstPlaces (l .n) maxCost = ap (λ (m : Limits). m .most) (w .is) in
+    ap (all isZero) (fill-end (gathered flaws (l .least) (l .most) (o .costs) (o .maxima) sum) row 8 whole filled)
+    ∙ rw (least, most, e) (flaws-more (l .n) o (w .stations) long high small flaws eight)

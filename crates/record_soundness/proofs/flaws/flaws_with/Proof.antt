@@ -1,25 +1,19 @@
 -- A row filled from the front with the flaws of each place.
-use mathlib.Core.Path.{_≡_, ap, _∙_}
+use mathlib.Core.Path.{_≡_}
 use Prim.Native.Nat.{ℕ, _≤_, _-_}
 use native.Mathlib.Omega.{arith}
 use lib.ListN.{length, length-set, getD, take}
-use lib.Bits.{bitOr}
 use mir.Syntax.{w16}
 use mir.Val.{Fits}
 use borrow.Author.Needs.{needs}
-use Rattle.model.specs.Limits.{maxCost}
-use Rattle.model.specs.Lists.{all, isZero, upward}
-use Rattle.lists.proofs.Fills.{fill-start, fill-next, fill-end}
-use Rattle.row_soundness.specs.declared.limits.Limits.{Limits}
-use Rattle.row_soundness.specs.Limits.{firstPlaces}
-use Rattle.record_soundness.proofs.FlawLaws.{flaws-more}
+use Rattle.model.specs.Lists.{upward}
+use Rattle.lists.proofs.Fills.{fill-start, fill-next}
+use Rattle.record_soundness.proofs.FlawLaws.{gathered, gathered-all}
 use Rattle.record_soundness.proofs.flaws.flaws_with.Statement.{statement}
 use Rattle.record_soundness.proofs.flaws.flaws_with.Tie as tie
 
 abbrev Inv-loop : tie.InvT-loop
-Inv-loop flaws least most costs maxima sum row₀ k₀ row k =
-    (k ≤ 8) × (length row ≡ 8)
-    × (take k row ≡ upward 0 k (λ i. bitOr (getD flaws i 0) (bitOr (bitOr (bitOr (getD least i 0 - getD costs i 0) (getD costs i 0 - getD maxima i 0)) (getD maxima i 0 - getD most i 0)) (getD costs i 0 - sum))))
+Inv-loop flaws least most costs maxima sum row₀ k₀ row k = (k ≤ 8) × (length row ≡ 8) × (take k row ≡ upward 0 k (gathered flaws least most costs maxima sum))
 
 abbrev μ-loop : tie.MeasureT-loop
 μ-loop flaws least most costs maxima sum row₀ k₀ row k = 8 - k
@@ -97,17 +91,13 @@ returns c =
     let inv = c .before .loop .inv in
     let top = c .before .before .before .before .before .before .before in
     let o = top .args .o in
-    let l = top .args .l in
     let flaws = top .args .t1 in
     let eight : length flaws ≡ 8 = search needs in
     let long : length (o .costs) ≡ 8 = search needs in
     let high : length (o .maxima) ≡ 8 = search needs in
     let small : (i : ℕ) → Fits w16 (getD (o .costs) i 0) = λ i. search needs in
     let e : c .before .loop .k ≡ 8 = omega arith in
-    let least : l .least ≡ firstPlaces (l .n) 1 = ap (λ (m : Limits). m .least) (top .pre .is) in
-    let most : l .most ≡ firstPlaces (l .n) maxCost = ap (λ (m : Limits). m .most) (top .pre .is) in
-    ap (all isZero) (fill-end _ _ 8 (inv .1) (rw (e, least, most, c .before .before .narrow .ensures) at (inv .2)))
-    ∙ flaws-more (l .n) o (top .pre .stations) long high (λ i. small i .fits) flaws eight
+    gathered-all (top .pre) o long high (λ i. small i .fits) flaws (c .before .loop .row) eight (c .before .before .narrow .ensures) (inv .1) (rw e at (inv .2))
 
 pub flaws-with-spec : {M : Type 1} → statement M
 flaws-with-spec =
