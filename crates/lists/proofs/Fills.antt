@@ -53,6 +53,17 @@ module _ {A : Type 0} where
   pub upward-list : (d : A) (l : List A) (n : ℕ) → length l ≡ n → upward 0 n (λ i. getD l i d) ≡ l
   upward-list d l n h = drop-upward d l 0 n (omega arith)
 
+  getD-from : (k n : ℕ) (f : ℕ → A) (i : ℕ) (d : A) → i < n → getD (upward k n f) i d ≡ f (k + i)
+  unfolding upward
+  getD-from k zero f i d h = absurd (let z : ⊥ = omega arith in z)
+  getD-from k (suc n) f zero d h = rw (add-zero k)
+  getD-from k (suc n) f (suc i) d h =
+      let e : k + suc i ≡ suc k + i = omega arith in
+      rw e (getD-from (suc k) n f i d (omega arith))
+
+  pub getD-upward : (n : ℕ) (f : ℕ → A) (i : ℕ) (d : A) → i < n → getD (upward 0 n f) i d ≡ f i
+  getD-upward n f i d h = getD-from 0 n f i d h ∙ rw (zero-add i)
+
   -- An array filled from the front: nothing yet, one more, all of it.
   pub fill-start : (f : ℕ → A) → [] ≡ upward 0 0 f
   unfolding upward

@@ -3,3 +3,4 @@ pub mod Stores
 pub mod Fills
 pub mod Tests
 pub mod Maxima
+pub mod Overlays

@@ -7,12 +7,12 @@ use Prim.Native.Nat.{ℕ, zero, suc, _+_, _-_, _≤_, _<_, max}
 use native.Mathlib.Nat.{add-zero}
 use native.Mathlib.Numerals.{add-one}
 use native.Mathlib.Omega.{arith}
-use lib.ListN.{length, getD, take, drop, drop-of-length-le}
+use lib.ListN.{length, getD, take, drop, replicate, drop-of-length-le}
 use lib.Seq.{take-nil, drop-nil, take-suc, take-all, take-take, length-take-le, drop-append-le, ext-getD}
 use lib.Dec.{leb, ltb}
 use borrow.Author.Tests.{ltb-true, ltb-false, leb-true, leb-false, lt-ltb, le-ltb, lt-leb, le-leb}
-use Rattle.model.specs.Lists.{within, total, largest, concat, all, any, numbered, allStations, upward}
-use Rattle.lists.proofs.Fills.{upward-more, concat-append, concat-one}
+use Rattle.model.specs.Lists.{within, isZero, total, largest, concat, all, any, numbered, allStations, upward}
+use Rattle.lists.proofs.Fills.{length-upward, getD-upward, upward-more, concat-append, concat-one}
 
 pub and-true : (a : Bool) → (a && true) ≡ a
 and-true true = refl
@@ -37,6 +37,12 @@ or-assoc false b c = refl
 pub and-both : (a b : Bool) → (a && b) ≡ true → (a ≡ true) × (b ≡ true)
 and-both true b h = (refl, h)
 and-both false b h = (h, cc)
+
+pub and-middle : (a b c d : Bool) → (a && b && (c && d)) ≡ (a && c && (b && d))
+and-middle true true c d = refl
+and-middle true false true d = refl
+and-middle true false false d = refl
+and-middle false b c d = refl
 
 -- By the two cases of a test.
 pub either : (P : Bool → Type 0) (b : Bool) → (b ≡ true → P true) → (b ≡ false → P false) → P b
@@ -97,6 +103,20 @@ module _ {A : Type 0} (test : A → Bool) where
   pub all-upward : (n : ℕ) (f : ℕ → A) → all test (upward 0 (n + 1) f) ≡ (all test (upward 0 n f) && test (f n))
   all-upward n f = rw (upward-more n f) (all-more (upward 0 n f) (f n))
 
+  -- One that fails is enough.
+  pub all-at : (d : A) (l : List A) (i : ℕ) → i < length l → all test l ≡ true → test (getD l i d) ≡ true
+  unfolding all
+  all-at d [] i h e = absurd (let z : ⊥ = omega arith in z)
+  all-at d (x ∷ l) zero h e = and-both (test x) (all test l) e .0
+  all-at d (x ∷ l) (suc i) h e = all-at d l i (omega arith) (and-both (test x) (all test l) e .1)
+
+  pub one-fails : (n : ℕ) (f : ℕ → A) (i : ℕ) → i < n → test (f i) ≡ false → false ≡ all test (upward 0 n f)
+  one-fails n f i h e =
+      let there : getD (upward 0 n f) i (f i) ≡ f i = getD-upward n f i (f i) h in
+      either (λ b. false ≡ b) (all test (upward 0 n f))
+      (λ t. sym e ∙ ap test (sym there) ∙ all-at (f i) (upward 0 n f) i (omega (arith, length-upward 0 n f)) t)
+      (λ t. refl)
+
   -- The first n of a row: of none, and of one more.
   pub first-none : (n : ℕ) → true ≡ all test (take n [])
   unfolding all
@@ -109,6 +129,20 @@ module _ {A : Type 0} (test : A → Bool) where
       (λ e.
       let high : k < n = leb-false n k e in
       rw (used-more d l n k h high, used-same l n k h high) (all-more (take k l) (getD l k d)))
+
+-- Two tests of each entry.
+pub all-both : {A : Type 0} (p q : A → Bool) (l : List A) → all (λ x. p x && q x) l ≡ (all p l && all q l)
+unfolding all
+all-both p q [] = refl
+all-both p q (x ∷ l) = rw (all-both p q l) (and-middle (p x) (q x) (all p l) (all q l))
+
+-- Zeros are zero.
+pub zeros-zero : (n m : ℕ) → all isZero (drop n (replicate m 0)) ≡ true
+unfolding all
+zeros-zero zero zero = refl
+zeros-zero zero (suc m) = zeros-zero zero m
+zeros-zero (suc n) zero = refl
+zeros-zero (suc n) (suc m) = zeros-zero n m
 
 -- A test that does not look at the entries goes before.
 pub or-all : {A : Type 0} (b : Bool) (test : A → Bool) (l : List A) → (b || all test l) ≡ all (λ x. b || test x) l
@@ -190,11 +224,15 @@ unfolding total
 total-snoc [] x = omega arith
 total-snoc (y ∷ a) x = omega (arith, total-snoc a x)
 
+-- Of a list by its entries: one more.
+pub total-upward : (n : ℕ) (f : ℕ → ℕ) → total (upward 0 (n + 1) f) ≡ total (upward 0 n f) + f n
+total-upward n f = rw (upward-more n f) (total-snoc (upward 0 n f) (f n))
+
 module _ (l : List ℕ) (k : ℕ) (h : k < length l) where
   pub largest-more : largest (take (k + 1) l) ≡ max (largest (take k l)) (getD l k 0)
   largest-more = rw (add-one, take-suc l k 0 h) (largest-snoc (take k l) (getD l k 0))
 
-  total-first : (n : ℕ) → total (take n (take (k + 1) l)) ≡ total (take n (take k l)) + cond (ltb k n) (getD l k 0) 0
+  pub total-first : (n : ℕ) → total (take n (take (k + 1) l)) ≡ total (take n (take k l)) + cond (ltb k n) (getD l k 0) 0
   total-first n =
       either (λ b. total (take n (take (k + 1) l)) ≡ total (take n (take k l)) + cond b (getD l k 0) 0) (ltb k n)
       (λ e.

@@ -1,4 +1,5 @@
 // Document 01, "Sound means", for one live order's record: each clause a function, and all of them by name.
+pub mod flaws; // flaws.rt: the records of all live orders together
 
 ghost use mathlib.Core.Path.{_≡_};
 ghost use Prim.Native.Nat.{_<_};

@@ -1,2 +1,3 @@
 -- What is asked of two rows together.
 pub mod Maxima
+pub mod Limits

@@ -1,5 +1,7 @@
 // Document 01, "Sound means", for a row of eight entries, of which the first n are in use. Each loop goes over all eight with the test
 // of n beside the entry's, so that a compiler can take the entries together.
+pub mod limits; // limits.rt: what may stand at each place
+
 ghost use mathlib.Core.Path.{_≡_};
 ghost use mathlib.Core.Bool.{cond};
 ghost use Prim.Native.Nat.{_+_, _-_, _≤_, _<_, max};

@@ -6,8 +6,8 @@ use Prim.Native.Nat.{ℕ, _≤_, _<_}
 use native.Mathlib.Omega.{arith}
 use lib.ListN.{length}
 use lib.Dec.{ltb}
-use borrow.Author.Tests.{le-leb, lt-leb, not-true}
-use Rattle.lists.proofs.Tests.{and-both, inside}
+use borrow.Author.Tests.{ltb-true, ltb-false, le-leb, lt-leb, not-true}
+use Rattle.lists.proofs.Tests.{either, and-both, inside}
 use Rattle.model.specs.Limits.{maxStations, maxLive}
 use Rattle.model.specs.Lists.{all}
 use Rattle.model.specs.Bytes.{byte}
@@ -16,7 +16,18 @@ use Rattle.model.specs.Image.{liveCount, decode}
 use Rattle.model.specs.Soundness.{stationCountInRange, liveCountInRange, clauses, sound}
 use Rattle.soundness.specs.declared.Flaw.{Flaw}
 use Rattle.soundness.specs.declared.Flaw.the-variants.{StationCount, LiveCount}
-use Rattle.soundness.specs.Flaw.{named, isNothing, firstOf, firstFlaw, laterClauses, listOf, flawOf}
+use Rattle.soundness.specs.Flaw.{named, isNothing, firstOf, firstFlaw, laterClauses, listOf, laterHold, flawOf}
+
+neither-of : (a b : Bool) → (a || b) ≡ false → (a ≡ false) × (b ≡ false)
+neither-of true b e = (e, cc)
+neither-of false b e = (refl, e)
+
+-- Counts that pass are in range.
+pub counts-in-range : (n live : ℕ) → (ltb n 1 || ltb maxStations n || ltb maxLive live) ≡ false → (1 ≤ n) × (n ≤ maxStations) × (live ≤ maxLive)
+counts-in-range n live e =
+    let f = neither-of (ltb n 1 || ltb maxStations n) (ltb maxLive live) e in
+    let g = neither-of (ltb n 1) (ltb maxStations n) (f .0) in
+    (ltb-false n 1 (g .0), ltb-false maxStations n (g .1), ltb-false maxLive live (f .1))
 
 module _ (image : List ℕ) {n : ℕ} (is : n ≡ byte image stationCountAt) where
   counted : {outside : Bool} → (ltb n 1 || ltb maxStations n) ≡ outside → stationCountInRange (decode image) ≡ not outside
@@ -34,6 +45,20 @@ module _ (image : List ℕ) {n : ℕ} (is : n ≡ byte image stationCountAt) whe
   pub later-flaw : (ltb n 1 || ltb maxStations n) ≡ false → liveCount image ≤ maxLive → flawOf (laterClauses image) ≡ firstFlaw image
   unfolding firstFlaw clauses firstOf liveCountInRange flawOf listOf laterClauses
   later-flaw e h = rw (counted e, le-leb (liveCount image) maxLive h)
+
+  -- The same tests of the counts say whether the image is sound.
+  pub counts-unsound : (ltb n 1 || ltb maxStations n || ltb maxLive (liveCount image)) ≡ true → false ≡ sound image
+  unfolding sound clauses all liveCountInRange
+  counts-unsound e =
+      either (λ t. false ≡ sound image) (ltb n 1 || ltb maxStations n)
+      (λ out. rw (counted out))
+      (λ fine. rw (counted fine, lt-leb (liveCount image) maxLive (ltb-true maxLive (liveCount image) (rw fine at e))))
+
+  pub later-sound : (ltb n 1 || ltb maxStations n || ltb maxLive (liveCount image)) ≡ false → laterHold (laterClauses image) ≡ sound image
+  unfolding sound clauses all liveCountInRange laterHold listOf laterClauses
+  later-sound e =
+      let f = neither-of (ltb n 1 || ltb maxStations n) (ltb maxLive (liveCount image)) e in
+      rw (counted (f .0), le-leb (liveCount image) maxLive (ltb-false maxLive (liveCount image) (f .1)))
 
 -- An image is sound where no clause fails.
 none-first : (tests : List Bool) (names : List Flaw) → length tests ≤ length names → all (λ f. not (isNothing f)) names ≡ true → isNothing (firstOf tests names) ≡ all (λ t. t) tests

@@ -70,5 +70,9 @@ unfoldable pub listOf : Clauses → List Bool
 listOf c =
     c .clock ∷ c .«zero_bytes» ∷ c .«unused_records» ∷ c .tickets ∷ c .acceptance ∷ c .due ∷ c .station ∷ c .costs ∷ c .maxima ∷ c .sum ∷ c .«on_time» ∷ c .beyond ∷ c .services ∷ []
 
+-- Whether none of them fails.
+unfoldable pub laterHold : Clauses → Bool
+laterHold c = all (λ clause. clause) (listOf c)
+
 unfoldable pub flawOf : Clauses → Flaw
 flawOf c = firstOf (listOf c) (drop 2 named)

@@ -4,12 +4,12 @@ pub mod records; // records.rt: the clauses that are asked of each live order
 ghost use mathlib.Core.Path.{_≡_};
 ghost use Prim.Native.Nat.{_≤_};
 ghost use lib.ListN.{length};
-ghost use Rattle.model.specs.Limits.{maxLive};
+ghost use Rattle.model.specs.Limits.{maxStations, maxLive};
 ghost use Rattle.model.specs.Bytes.{byte};
 ghost use Rattle.model.specs.Layout.{imageSize, stationCountAt};
 ghost use Rattle.model.specs.Image.{liveCount};
 ghost use Rattle.model.specs.Soundness as says;
-ghost use Rattle.soundness.specs.Flaw.{laterClauses, flawOf, isNothing, firstFlaw};
+ghost use Rattle.soundness.specs.Flaw.{laterClauses, laterHold, flawOf, firstFlaw};
 use image::decode::services_of;
 use image::layout::CLOCK_AT;
 use image::layout::LIVE_COUNT_AT;
@@ -157,33 +157,32 @@ pub fn first_flaw(image: &[u8]) -> Flaw
     flaw_of(later_clauses(image, n, live as usize))
 }
 
-fn is_nothing(flaw: Flaw) -> bool
-    ensures { λ r. ⌜ r ≡ isNothing flaw ⌝ }
+// The same clauses in the same order, where none has to be named.
+fn later_hold(image: &[u8], n: u32, live: usize) -> bool
+    requires { ⌜ (length (now image) ≡ imageSize) × (n ≡ byte (now image) stationCountAt) × (live ≡ liveCount (now image)) × (live ≤ maxLive) × (1 ≤ n) × (n ≤ maxStations) ⌝ }
+    ensures { λ r. ⌜ r ≡ laterHold (laterClauses (now (image .entry))) ⌝ }
 {
-    match flaw {
-        Flaw::Nothing => true,
-        Flaw::StationCount => false,
-        Flaw::LiveCount => false,
-        Flaw::Clock => false,
-        Flaw::ZeroBytes => false,
-        Flaw::UnusedRecords => false,
-        Flaw::Tickets => false,
-        Flaw::Acceptance => false,
-        Flaw::Due => false,
-        Flaw::Station => false,
-        Flaw::Costs => false,
-        Flaw::Maxima => false,
-        Flaw::Sum => false,
-        Flaw::OnTime => false,
-        Flaw::Beyond => false,
-        Flaw::Services => false,
-    }
+    let clock = u32_at(image, CLOCK_AT);
+    let next = u32_at(image, NEXT_AT);
+    let orders = (clock <= LAST_TICK)
+        & zero_bytes_zero(image, live)
+        & unused_records_zero(image, live)
+        & tickets_in_order(image, live, next)
+        & records::all_hold(image, n, live, clock);
+    let services = services_of(image);
+    orders & idle_beyond(n, services) & services_in_order(image, n, live, services)
 }
 
-// Question 4, "Image sound?". Neither yes to an image with a broken clause nor no to one with none meets the promise.
+// Question 4, "Image sound?". Every call asks it, so it goes by itself and not by way of the first flaw, which takes four
+// times as long. Neither yes to an image with a broken clause nor no to one with none meets the promise.
 pub fn sound(image: &[u8]) -> bool
     requires { ⌜ length (now image) ≡ imageSize ⌝ }
     ensures { λ r. ⌜ r ≡ says.sound (now (image .entry)) ⌝ }
 {
-    is_nothing(first_flaw(image))
+    let n = wide(image[STATION_COUNT_AT]);
+    let live = image[LIVE_COUNT_AT];
+    if (n < 1) | (MAX_STATIONS < n) | (MAX_LIVE < live) {
+        return false;
+    }
+    later_hold(image, n, live as usize)
 }

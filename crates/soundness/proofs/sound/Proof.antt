@@ -1,19 +1,47 @@
--- An image is sound where no clause fails.
-use mathlib.Core.Path.{_∙_, ap}
+-- The counts first, then the other clauses together.
+use mathlib.Core.Path.{refl, _∙_}
+use native.Mathlib.Omega.{arith}
 use borrow.Author.Needs.{needs}
-use Rattle.soundness.specs.Flaw.{isNothing}
-use Rattle.soundness.proofs.FirstLaws.{sound-is}
+use Rattle.model.specs.Bytes.{byte}
+use Rattle.model.specs.Layout.{liveCountAt}
+use Rattle.soundness.proofs.FirstLaws.{counts-in-range, counts-unsound, later-sound}
 use Rattle.soundness.proofs.sound.Statement.{statement}
 use Rattle.soundness.proofs.sound.Tie as tie
 
-first-flaw-requires : tie.Need-first-flaw-requires
-first-flaw-requires c κs = search needs
+shared-slice-read-wide : tie.Need-shared-slice-read-wide
+shared-slice-read-wide c = search needs
 
-is-nothing-requires : tie.Need-is-nothing-requires
-is-nothing-requires c κs = search needs
+wide-requires : tie.Need-wide-requires
+wide-requires c κs = search needs
+
+shared-slice-read-live : tie.Need-shared-slice-read-live
+shared-slice-read-live c = search needs
 
 returns : tie.Need-returns
-returns c = c .is-nothing .ensures ∙ ap isNothing (c .before .first-flaw .ensures) ∙ sound-is _
+returns c = counts-unsound _ (c .before .before .wide .ensures) (c .if1 .taken)
+
+cast-later-hold : tie.Need-cast-later-hold
+cast-later-hold c =
+    let image = c .before .before .before .before .before .args .image .now in
+    record { fits = omega (arith, counts-in-range (c .before .before .wide .result) (byte image liveCountAt) (c .if1 .left) .2) }
+
+later-hold-requires : tie.Need-later-hold-requires
+later-hold-requires c κs =
+    let image = c .before .before .before .before .before .args .image .now in
+    let range = counts-in-range (c .before .before .wide .result) (byte image liveCountAt) (c .if1 .left) in
+    (c .before .before .before .before .before .pre, c .before .before .wide .ensures, refl, range .2, range .0, range .1)
+
+returns-2 : tie.Need-returns-2
+returns-2 c = c .later-hold .ensures ∙ later-sound _ (c .before .before .before .wide .ensures) (c .before .if1 .left)
 
 pub sound-spec : {M : Type 1} → statement M
-sound-spec = tie.close (tie.spec first-flaw-requires is-nothing-requires returns)
+sound-spec =
+    tie.close
+    (tie.spec
+    shared-slice-read-wide
+    wide-requires
+    shared-slice-read-live
+    returns
+    cast-later-hold
+    later-hold-requires
+    returns-2)

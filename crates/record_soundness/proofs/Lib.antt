@@ -1,0 +1,2 @@
+-- Laws of flaws.
+pub mod FlawLaws

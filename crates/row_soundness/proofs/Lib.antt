@@ -1,0 +1,2 @@
+-- Laws of limits.
+pub mod LimitLaws
