@@ -16,7 +16,7 @@ use Rattle.image.specs.declared.Pipeline.{Pipeline}
 use Rattle.image.specs.Pipeline.{listed, padded}
 use Rattle.offers.specs.Considered.{Fitting}
 use Rattle.margins.specs.declared.Tried.{Tried}
-use Rattle.margins.specs.Margins.{MarginFits, Tries}
+use Rattle.margins.specs.Margins.{MarginFits, Tryable, Tries}
 use Rattle.admission.specs.Decision.{arrivalWith}
 use Rattle.admission.specs.Answers.{SoundPipeline}
 use Rattle.admission.proofs.FitLaws.{arrival-fits, joined-fits}
@@ -35,14 +35,15 @@ module _ {p : Pipeline} (ok : SoundPipeline p) where
     arrival-tried e small =
         rw (n-is, e) (arrival-fits (listed p) b (ok .sound .facts) f (subst (λ (o : Order). o .sum < 2162688) e small))
 
-    pub live-tried : {live : ℕ} → live ≡ p .live → (o : Order) → o ∈ take live (p .orders) → MarginFits n (joinedBy b o)
+    pub live-tried : {live : ℕ} → live ≡ p .live → (o : Order) → o ∈ take live (p .orders) → Tryable n b o
     unfolding listed
     live-tried live-is o m =
-        rw n-is (joined-fits (listed p) b (ok .sound .facts) f o (subst (λ (k : ℕ). o ∈ take k (p .orders)) live-is m))
+        let here = subst (λ (k : ℕ). o ∈ take k (p .orders)) live-is m in
+        record { named = ok .sound .facts .orders o here .named; fits = rw n-is (joined-fits (listed p) b (ok .sound .facts) f o here) }
 
   pub sums-fit : {b : Block} → Fitting (listed p) b → {live : ℕ} → live ≡ p .live → (o : Order) → o ∈ take live (p .orders) → largest (b .costs) + o .sum < 4294967296
   unfolding boundTick delayBound joinedBy
-  sums-fit f e o m = omega (arith, live-tried f refl e o m .tick)
+  sums-fit f e o m = omega (arith, live-tried f refl e o m .fits .tick)
 
 -- What the code works out of a state is what the definitions say of it.
 module _ (p : Pipeline) (b : Block) {n live : ℕ} (n-is : n ≡ p .n) (live-is : live ≡ p .live) {t : Tried} (r : Tries n b (take live (p .orders)) t) where

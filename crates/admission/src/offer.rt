@@ -7,6 +7,7 @@ ghost use Rattle.model.specs.Limits.{lastTick};
 ghost use Rattle.model.specs.Admission.{dueOf, blockQuestions, counterQuestions};
 ghost use Rattle.image.specs.Pipeline.{listed, unused};
 ghost use Rattle.offers.specs.Considered.{Fitting};
+ghost use Rattle.row_soundness.specs.Limits.{Made};
 ghost use Rattle.margins.specs.Margins.{MarginFits};
 ghost use Rattle.admission.specs.Decision.{arrivalWith, decisionOf};
 ghost use Rattle.admission.specs.Answers.{SoundPipeline, Offers};
@@ -25,6 +26,8 @@ use model::limits::LAST_TICK;
 use model::limits::MAX_DUE_IN;
 use model::limits::MAX_LIVE;
 use order_block::due_tick;
+use row_soundness::limits::Limits;
+use row_soundness::limits::limits_of;
 
 // The decision, and beside it the arrival where it was accepted: an enum holds no array.
 pub struct Offered {
@@ -67,11 +70,11 @@ fn arrival(ticket: u32, clock: u32, b: Block, t: Tried) -> Order
 
 // Questions 11 and 12, the last two, by the arrival's margin and the smallest of the live orders'. Neither 12 for an arrival
 // that is late itself nor the margin of the arrival alone meets the promise.
-fn decide(n: u32, a: Order, others: i32) -> Decision
-    requires { ⌜ MarginFits n a ⌝ }
-    ensures { λ r. ⌜ r ≡ decisionOf n a others ⌝ }
+fn decide(l: Limits, a: Order, others: i32) -> Decision
+    requires { ⌜ Made l × MarginFits (l .n) a ⌝ }
+    ensures { λ r. ⌜ r ≡ decisionOf (l .n) a others ⌝ }
 {
-    let own = margin(n, a);
+    let own = margin(l, a);
     let least = smaller(own, others);
     if own < 0 {
         return Decision::Late(least);
@@ -80,7 +83,7 @@ fn decide(n: u32, a: Order, others: i32) -> Decision
         return Decision::Delaying(least);
     }
     Decision::Accepted(Figures {
-        tick: bound_tick(n, a),
+        tick: bound_tick(l, a),
         margin: least,
     })
 }
@@ -109,11 +112,11 @@ fn answered(p: Pipeline, b: Block) -> Offered
     requires { ⌜ Fitting (listed p) b ⌝ }
     ensures { λ r. ⌜ Offers (drop 3 (counterQuestions (listed p) b)) (listed p) b r ⌝ }
 {
-    let n = wide32(p.n);
+    let l = limits_of(wide32(p.n));
     let orders = p.orders;
-    let t = try_all(n, b, orders, wide(p.live));
+    let t = try_all(l, b, orders, wide(p.live));
     let a = arrival(p.next, p.clock, b, t);
-    let decision = decide(n, a, t.least);
+    let decision = decide(l, a, t.least);
     Offered {
         decision: decision,
         arrival: a,

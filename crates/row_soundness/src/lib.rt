@@ -19,7 +19,7 @@ fn wide(x: u16) -> u32
     x as u32
 }
 
-fn larger(a: u32, b: u32) -> u32
+fn larger(a: u16, b: u16) -> u16
     ensures { λ r. ⌜ r ≡ max a b ⌝ }
 {
     if a < b { b } else { a }
@@ -64,13 +64,13 @@ pub fn maxima_in_range(n: u32, costs: [u16; 8], maxima: [u16; 8]) -> bool
 pub fn largest(costs: [u16; 8]) -> u32
     ensures { λ r. ⌜ (r ≡ lists.largest costs) × (r < 65536) ⌝ }
 {
-    let mut m: u32 = 0;
+    let mut m: u16 = 0;
     let mut k: usize = 0;
     while k < 8 {
-        m = larger(m, wide(costs[k]));
+        m = larger(m, costs[k]);
         k += 1;
     }
-    m
+    wide(m)
 }
 
 // The entries of the stations before n, added up.

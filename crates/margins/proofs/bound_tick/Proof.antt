@@ -7,20 +7,20 @@ use Rattle.model.specs.DelayBound.{boundTick, delayBound}
 use Rattle.margins.proofs.bound_tick.Statement.{statement}
 use Rattle.margins.proofs.bound_tick.Tie as tie
 
-before-last-requires : tie.Need-before-last-requires
-before-last-requires c κs = search needs
+counted-total-requires : tie.Need-counted-total-requires
+counted-total-requires c κs = search needs
 
 add-result : tie.Need-add-result
 unfolding boundTick delayBound
-add-result c = record { fits = omega (arith, c .before .before .before .pre .tick, c .before .before-last .ensures .0) }
+add-result c = record { fits = omega (arith, c .before .before .before .pre .1 .tick, c .before .counted-total .ensures) }
 
 add-result-2 : tie.Need-add-result-2
 unfolding boundTick delayBound
-add-result-2 c = record { fits = omega (arith, c .before .before .before .before .pre .tick, c .before .before .before-last .ensures .0) }
+add-result-2 c = record { fits = omega (arith, c .before .before .before .before .pre .1 .tick, c .before .before .counted-total .ensures) }
 
 returns : tie.Need-returns
 unfolding boundTick delayBound
-returns c = rw (c .before .before .before-last .ensures .0)
+returns c = rw (c .before .before .counted-total .ensures)
 
 pub bound-tick-spec : {M : Type 1} → statement M
-bound-tick-spec = tie.close (tie.spec before-last-requires add-result add-result-2 returns)
+bound-tick-spec = tie.close (tie.spec counted-total-requires add-result add-result-2 returns)

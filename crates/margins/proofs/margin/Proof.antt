@@ -21,18 +21,18 @@ signed-requires-2 c κs = search needs
 sub-result : tie.Need-sub-result
 sub-result c =
     let top = c .before .before .before in
-    made-fits _ _ (top .pre .above) (top .pre .below) _ _ (c .before .before .signed .ensures) (c .signed2 .ensures ∙ ap pos (c .before .bound-tick .ensures)) (omega arith) (top .pre .tick)
+    made-fits _ _ (top .pre .1 .above) (top .pre .1 .below) _ _ (c .before .before .signed .ensures) (c .signed2 .ensures ∙ ap pos (c .before .bound-tick .ensures)) (omega arith) (top .pre .1 .tick)
 
 cast-result : tie.Need-cast-result
 cast-result c =
     let top = c .before .before .before in
-    cast-fits _ _ (top .pre .above) (top .pre .below) _ _ (c .before .before .signed .ensures) (c .signed2 .ensures ∙ ap pos (c .before .bound-tick .ensures)) (omega arith) (top .pre .tick)
+    cast-fits _ _ (top .pre .1 .above) (top .pre .1 .below) _ _ (c .before .before .signed .ensures) (c .signed2 .ensures ∙ ap pos (c .before .bound-tick .ensures)) (omega arith) (top .pre .1 .tick)
 
 returns : tie.Need-returns
 unfolding delay.margin
 returns c =
     let top = c .before .before .before in
-    cast-read _ _ (top .pre .above) (top .pre .below) _ _ (c .before .before .signed .ensures) (c .signed2 .ensures ∙ ap pos (c .before .bound-tick .ensures)) (omega arith) (top .pre .tick)
+    cast-read _ _ (top .pre .1 .above) (top .pre .1 .below) _ _ (c .before .before .signed .ensures) (c .signed2 .ensures ∙ ap pos (c .before .bound-tick .ensures)) (omega arith) (top .pre .1 .tick)
 
 pub margin-spec : {M : Type 1} → statement M
 margin-spec =

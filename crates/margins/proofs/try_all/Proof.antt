@@ -19,16 +19,16 @@ use Rattle.lists.proofs.Fills.{map-upward, past}
 use Rattle.lists.proofs.Maxima.{sum-start, maxima-start, sum-more, maxima-more}
 use Rattle.lists.proofs.Tests.{upward-map}
 use Rattle.roundtrip.proofs.Rows.{getD-in}
-use Rattle.margins.specs.Margins.{MarginFits}
+use Rattle.margins.specs.Margins.{MarginFits, Tryable}
 use Rattle.margins.proofs.LeastLaws.{smallest-start, smallest-more}
 use Rattle.margins.proofs.try_all.Statement.{statement}
 use Rattle.margins.proofs.try_all.Tie as tie
 
 abbrev Inv-loop : tie.InvT-loop
-Inv-loop n b live orders top sum₀ maxima₀ least₀ i₀ sum maxima least i = (i ≤ live) × (sum < 65536 * (i + 1)) × (length maxima ≡ 8) × (sum ≡ sumOf (b .costs ∷ upward 0 i (λ k. getD orders k past .costs))) × (maxima ≡ maximaOf (b .costs ∷ upward 0 i (λ k. getD orders k past .costs))) × (toZ w32 least ≡ smallest (pos 2147483647) (upward 0 i (λ k. delay.margin n (joinedBy b (getD orders k past)))))
+Inv-loop l b live orders top sum₀ maxima₀ least₀ i₀ sum maxima least i = (i ≤ live) × (sum < 65536 * (i + 1)) × (length maxima ≡ 8) × (sum ≡ sumOf (b .costs ∷ upward 0 i (λ k. getD orders k past .costs))) × (maxima ≡ maximaOf (b .costs ∷ upward 0 i (λ k. getD orders k past .costs))) × (toZ w32 least ≡ smallest (pos 2147483647) (upward 0 i (λ k. delay.margin (l .n) (joinedBy b (getD orders k past)))))
 
 abbrev μ-loop : tie.MeasureT-loop
-μ-loop n b live orders top sum₀ maxima₀ least₀ i₀ sum maxima least i = live - i
+μ-loop l b live orders top sum₀ maxima₀ least₀ i₀ sum maxima least i = live - i
 
 largest-requires : tie.Need-largest-requires Inv-loop μ-loop
 largest-requires c κs = search needs
@@ -42,6 +42,25 @@ mul-o c = omega arith
 array-copy-out-o : tie.Need-array-copy-out-o Inv-loop μ-loop
 array-copy-out-o c = search needs
 
+-- A live order that is tried is one of the first `live`.
+tryable : (c : tie.Start Inv-loop μ-loop) (i : ℕ) → i < c .args .live → Tryable (c .args .l .n) (c .args .b) (getD (c .args .t3) i past)
+tryable c i h =
+    let orders = c .args .t3 in
+    let live = c .args .live in
+    let long : length orders ≡ 32 = search needs in
+    let few : live ≤ 32 = c .pre .0 .0 in
+    let here = getD-in (take live orders) past i (omega (arith, length-take-le live orders (omega (arith, few, long)), h)) in
+    rw (getD-take live orders i past h) at (c .pre .1 (getD (take live orders) i past) here)
+
+gathered-requires : tie.Need-gathered-requires Inv-loop μ-loop
+gathered-requires c κs = search needs
+
+returns : tie.Need-returns Inv-loop μ-loop
+returns c =
+    let in-loop = c .before .before .before .before in
+    let at = in-loop .before in
+    absurd (let z : ⊥ = omega (arith, c .before .if1 .taken, tryable (at .before .before .before) (at .loop .i) (in-loop .loop-test .taken) .named) in z)
+
 largest-requires-2 : tie.Need-largest-requires-2 Inv-loop μ-loop
 largest-requires-2 c κs = search needs
 
@@ -51,27 +70,20 @@ add-sum c = omega arith
 larger-row-requires : tie.Need-larger-row-requires Inv-loop μ-loop
 larger-row-requires c κs = search needs
 
--- A live order that is tried is one of the first `live`.
-fits : (c : tie.Start Inv-loop μ-loop) (i : ℕ) → i < c .args .live → MarginFits (c .args .n) (joinedBy (c .args .b) (getD (c .args .t3) i past))
-fits c i h =
-    let orders = c .args .t3 in
-    let live = c .args .live in
-    let long : length orders ≡ 32 = search needs in
-    let few : live ≤ 32 = c .pre .0 in
-    let here = getD-in (take live orders) past i (omega (arith, length-take-le live orders (omega (arith, few, long)), h)) in
-    rw (getD-take live orders i past h) at (c .pre .1 (getD (take live orders) i past) here)
-
 joined-by-requires : tie.Need-joined-by-requires Inv-loop μ-loop
 unfolding boundTick delayBound joinedBy
 joined-by-requires c κs =
-    let k = c .before .before .before .before .before in
-    let top = k .before .largest .ensures .0 in
-    (top, omega (arith, top, fits (k .before .before .before) (k .loop .i) (c .before .before .before .before .loop-test .taken) .tick))
+    let in-loop = c .before .before .before .before .before .before in
+    let at = in-loop .before in
+    let top = at .before .largest .ensures .0 in
+    (top, omega (arith, top, tryable (at .before .before .before) (at .loop .i) (in-loop .loop-test .taken) .fits .tick))
 
 margin-requires : tie.Need-margin-requires Inv-loop μ-loop
 margin-requires c κs =
-    let k = c .before .before .before .before .before .before in
-    subst (MarginFits _) (sym (c .joined-by .ensures)) (fits (k .before .before .before) (k .loop .i) (c .before .before .before .before .before .loop-test .taken))
+    let in-loop = c .before .before .before .before .before .before .before in
+    let at = in-loop .before in
+    let top = at .before .before .before in
+    (top .pre .0 .1, subst (MarginFits _) (sym (c .joined-by .ensures)) (tryable top (at .loop .i) (in-loop .loop-test .taken) .fits))
 
 smaller-requires : tie.Need-smaller-requires Inv-loop μ-loop
 smaller-requires c κs = search needs
@@ -85,13 +97,14 @@ loop-less c = omega arith
 loop-again : tie.Need-loop-again Inv-loop μ-loop
 loop-again c =
     let row = c .before .before .before in
-    let k = row .before .before .before .before .before in
+    let in-loop = row .before .before .before .before .before .before in
+    let k = in-loop .before in
     let inv = k .loop .inv in
     let top = k .before .before .before in
     let own : ℕ → List ℕ = λ j. getD (top .args .t3) j past .costs in
     let sum = row .before .largest2 .ensures in
     let read = toZ-ofZ {w = w32} (record { sfits = c .before .margin .ok }) ∙ c .before .margin .ensures ∙ ap (delay.margin _) (c .before .before .joined-by .ensures) in (
-      omega arith,
+      omega (arith, in-loop .loop-test .taken),
       omega (arith, sum .1, inv .1),
       search needs,
       rw (sum .0, inv .3) (sym (sum-more (top .args .b .costs) own (k .loop .i))),
@@ -99,19 +112,23 @@ loop-again c =
       toZ-ofZ {w = w32} (record { sfits = c .smaller .ok }) ∙ smallest-more _ _ _ (inv .5) read (c .smaller .ensures),
     )
 
-returns : tie.Need-returns Inv-loop μ-loop
-returns c =
-    let inv = c .before .loop .inv in
-    let top = c .before .before .before .before in
+gathered-requires-2 : tie.Need-gathered-requires-2 Inv-loop μ-loop
+gathered-requires-2 c κs = search needs
+
+returns-2 : tie.Need-returns-2 Inv-loop μ-loop
+returns-2 c =
+    let inv = c .before .before .loop .inv in
+    let top = c .before .before .before .before .before in
     let orders = top .args .t3 in
     let live = top .args .live in
-    let n = top .args .n in
+    let n = top .args .l .n in
     let joined = joinedBy (top .args .b) in
     let long : length orders ≡ 32 = search needs in
-    let e : c .before .loop .i ≡ live = omega arith in
+    let e : c .before .before .loop .i ≡ live = omega arith in
     let members = map-upward (λ (o : Order). o .costs) past orders live (omega arith) in
     let margins = ap (map (delay.margin n)) (map-upward joined past orders live (omega arith)) ∙ upward-map (delay.margin n) 0 live (λ k. joined (getD orders k past)) in
-    record { sum-is = inv .3 ∙ rw (e, members); sum-small = omega (arith, inv .1); maxima-is = inv .4 ∙ rw (e, members); least-is = inv .5 ∙ rw (e, margins) }
+    rw (c .gathered2 .ensures)
+    (record { sum-is = inv .3 ∙ rw (e, members); sum-small = omega (arith, inv .1); maxima-is = inv .4 ∙ rw (e, members); least-is = inv .5 ∙ rw (e, margins) })
 
 pub try-all-spec : {M : Type 1} → statement M
 try-all-spec =
@@ -123,6 +140,8 @@ try-all-spec =
     loop-holds
     mul-o
     array-copy-out-o
+    gathered-requires
+    returns
     largest-requires-2
     add-sum
     larger-row-requires
@@ -132,4 +151,5 @@ try-all-spec =
     add-i
     loop-less
     loop-again
-    returns)
+    gathered-requires-2
+    returns-2)

@@ -1,6 +1,6 @@
 -- The test of the entries so far.
 use mathlib.Core.Path.{_≡_, refl, sym, _∙_}
-use Prim.Native.Nat.{_≤_, _<_, _-_}
+use Prim.Native.Nat.{_≤_, _-_}
 use native.Mathlib.Omega.{arith}
 use lib.Seq.{take-all}
 use lib.ListN.{length, take}
@@ -11,23 +11,20 @@ use Rattle.row_soundness.proofs.largest.Statement.{statement}
 use Rattle.row_soundness.proofs.largest.Tie as tie
 
 abbrev Inv-loop : tie.InvT-loop
-Inv-loop costs m₀ k₀ m k = (k ≤ 8) × (m ≡ largest (take k costs)) × (m < 65536)
+Inv-loop costs m₀ k₀ m k = (k ≤ 8) × (m ≡ largest (take k costs))
 
 abbrev μ-loop : tie.MeasureT-loop
 μ-loop costs m₀ k₀ m k = 8 - k
 
 loop-holds : tie.Need-loop-holds Inv-loop μ-loop
 unfolding largest
-loop-holds c = (omega arith, refl, omega arith)
+loop-holds c = (omega arith, refl)
 
-mul-wide : tie.Need-mul-wide Inv-loop μ-loop
-mul-wide c = omega arith
+mul-larger : tie.Need-mul-larger Inv-loop μ-loop
+mul-larger c = omega arith
 
-array-read-wide : tie.Need-array-read-wide Inv-loop μ-loop
-array-read-wide c = omega arith
-
-wide-requires : tie.Need-wide-requires Inv-loop μ-loop
-wide-requires c κs = search needs
+array-read-larger : tie.Need-array-read-larger Inv-loop μ-loop
+array-read-larger c = omega arith
 
 larger-requires : tie.Need-larger-requires Inv-loop μ-loop
 larger-requires c κs = search needs
@@ -40,18 +37,21 @@ loop-less c = omega arith
 
 loop-again : tie.Need-loop-again Inv-loop μ-loop
 loop-again c =
-    let k = c .before .before .before in
+    let k = c .before .before in
     let row = k .before .args .t1 in
     let long : length row ≡ 8 = search needs in
-    (omega arith, c .larger .ensures ∙ (rw (c .before .wide .ensures .0, k .loop .inv .1) (sym (largest-more row (k .loop .k) (omega arith)))), omega (arith, c .larger .ensures, c .before .wide .ensures .1, k .loop .inv .2))
+    (omega arith, c .larger .ensures ∙ rw (k .loop .inv .1) (sym (largest-more row (k .loop .k) (omega arith))))
+
+wide-requires : tie.Need-wide-requires Inv-loop μ-loop
+wide-requires c κs = search needs
 
 returns : tie.Need-returns Inv-loop μ-loop
 returns c =
-    let top = c .before .before in
-    let row = top .args .t1 in
+    let loop = c .before .before in
+    let row = loop .before .args .t1 in
     let long : length row ≡ 8 = search needs in
-    let e : c .before .loop .k ≡ 8 = omega arith in
-    (rw (e, take-all 8 row (omega arith)) at (c .before .loop .inv .1), c .before .loop .inv .2)
+    let e : loop .loop .k ≡ 8 = omega arith in
+    (c .wide .ensures .0 ∙ (rw (e, take-all 8 row (omega arith)) at (loop .loop .inv .1)), c .wide .ensures .1)
 
 pub largest-spec : {M : Type 1} → statement M
 largest-spec =
@@ -60,11 +60,11 @@ largest-spec =
     Inv-loop
     μ-loop
     loop-holds
-    mul-wide
-    array-read-wide
-    wide-requires
+    mul-larger
+    array-read-larger
     larger-requires
     add-k
     loop-less
     loop-again
+    wide-requires
     returns)

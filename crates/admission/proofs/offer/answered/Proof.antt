@@ -8,6 +8,9 @@ use borrow.Author.Needs.{needs}
 use Rattle.model.specs.declared.Order.{Order}
 use Rattle.model.specs.Admission as counter
 use Rattle.image.specs.Pipeline.{listed}
+use Rattle.row_soundness.specs.declared.limits.Limits.{Limits}
+use Rattle.row_soundness.specs.Limits.{Made}
+use Rattle.row_soundness.proofs.LimitLaws.{made}
 use Rattle.margins.specs.Margins.{MarginFits}
 use Rattle.admission.specs.Decision.{arrivalWith, decisionOf}
 use Rattle.admission.specs.Answers.{Decides}
@@ -23,33 +26,48 @@ wide32-requires c κs = search needs
 wide-requires : tie.Need-wide-requires
 wide-requires c κs = search needs
 
+limits-of-requires : tie.Need-limits-of-requires
+unfolding listed
+limits-of-requires c κs =
+    let facts = c .before .pre .0 .sound .facts in
+    (omega (arith, c .wide32 .ensures, facts .n-low), omega (arith, c .wide32 .ensures, facts .n-high))
+
+-- The limits are those of the state's stations.
+n-is : (c : tie.After-limits-of) → c .limits-of .result .n ≡ c .before .before .args .p .n
+n-is c = ap (λ (l : Limits). l .n) (c .limits-of .ensures) ∙ c .before .wide32 .ensures
+
+limits-made : (c : tie.After-limits-of) → Made (c .limits-of .result)
+unfolding listed
+limits-made c = made (c .limits-of .ensures) (omega (arith, c .before .wide32 .ensures, c .before .before .pre .0 .sound .facts .n-high))
+
 try-all-requires : tie.Need-try-all-requires
 try-all-requires c κs =
-    let top = c .before .before .before in
-    (omega (arith, c .wide .ensures, few (top .pre .0)), live-tried (top .pre .0) (top .pre .1) (c .before .before .wide32 .ensures) (c .wide .ensures))
+    let limits = c .before .before in
+    let top = limits .before .before in
+    ((omega (arith, c .wide .ensures, few (top .pre .0)), limits-made limits), live-tried (top .pre .0) (top .pre .1) (n-is limits) (c .wide .ensures))
 
 arrival-requires : tie.Need-arrival-requires
 unfolding listed
-arrival-requires c κs = c .before .before .before .before .pre .1 .due-tick
+arrival-requires c κs = c .before .before .before .before .before .pre .1 .due-tick
 
 -- The arrival is the state's, and its margin fits.
-is-arrival : (c : tie.After-arrival) → let top = c .before .before .before .before .before in c .arrival .result ≡ counter.arrival (listed (top .args .p)) (top .args .b)
+is-arrival : (c : tie.After-arrival) → let top = c .before .before .before .before .before .before in c .arrival .result ≡ counter.arrival (listed (top .args .p)) (top .args .b)
 is-arrival c =
     let tried = c .before in
     let wide = tried .before in
-    c .arrival .ensures ∙ arrival-is _ _ (wide .before .before .wide32 .ensures) (wide .wide .ensures) (tried .try-all .ensures)
+    c .arrival .ensures ∙ arrival-is _ _ (n-is (wide .before .before)) (wide .wide .ensures) (tried .try-all .ensures)
 
-fits : (c : tie.After-arrival) → MarginFits (c .before .before .before .before .wide32 .result) (c .arrival .result)
+fits : (c : tie.After-arrival) → MarginFits (c .before .before .before .before .limits-of .result .n) (c .arrival .result)
 unfolding arrivalWith
 fits c =
     let tried = c .before in
-    let wide = tried .before in
-    let top = wide .before .before .before in
-    arrival-tried (top .pre .0) (top .pre .1) (wide .before .before .wide32 .ensures) (is-arrival c)
+    let limits = tried .before .before .before in
+    let top = limits .before .before in
+    arrival-tried (top .pre .0) (top .pre .1) (n-is limits) (is-arrival c)
     (subst (λ (o : Order). o .sum < 2162688) (sym (c .arrival .ensures)) (tried .try-all .ensures .sum-small))
 
 decide-requires : tie.Need-decide-requires
-decide-requires c κs = fits (c .before)
+decide-requires c κs = (limits-made (c .before .before .before .before .before), fits (c .before))
 
 returns : tie.Need-returns
 unfolding listed
@@ -58,8 +76,7 @@ returns c =
     let arrival = told .before in
     let tried = arrival .before in
     let wide = tried .before in
-    let top = wide .before .before .before in
-    let n = wide .before .before .wide32 .ensures in
+    let n = n-is (wide .before .before) in
     let is = rw (n, is-arrival arrival, toZ-ofZ {w = w32} (record { sfits = told .struct-told .given .1 .1 .0 .1 })) at (c .decide .ensures) in
     let own = margin-fits _ _ (rw (n, is-arrival arrival) at (fits arrival)) in
     record { decides = subst (Decides _ _ _) (sym is) (decides _ _ _ (others-are _ _ n (wide .wide .ensures) (tried .try-all .ensures)) own); arrives = λ e. is-arrival arrival }
@@ -69,6 +86,7 @@ answered-spec =
     tie.close
     (tie.spec
     wide32-requires
+    limits-of-requires
     wide-requires
     try-all-requires
     arrival-requires

@@ -21,10 +21,10 @@ margin-requires c κs = search needs
 smaller-requires : tie.Need-smaller-requires
 smaller-requires c κs = search needs
 
-own-is : (c : tie.After-margin) → toZ w32 (ofZ w32 (c .margin .result)) ≡ delay.margin (c .before .args .n) (c .before .args .a)
+own-is : (c : tie.After-margin) → toZ w32 (ofZ w32 (c .margin .result)) ≡ delay.margin (c .before .args .l .n) (c .before .args .a)
 own-is c = toZ-ofZ {w = w32} (record { sfits = c .margin .ok }) ∙ c .margin .ensures
 
-least-is : (c : tie.After-smaller) → toZ w32 (ofZ w32 (c .smaller .result)) ≡ smallest (delay.margin (c .before .before .args .n) (c .before .before .args .a)) (c .before .before .args .others ∷ [])
+least-is : (c : tie.After-smaller) → toZ w32 (ofZ w32 (c .smaller .result)) ≡ smallest (delay.margin (c .before .before .args .l .n) (c .before .before .args .a)) (c .before .before .args .others ∷ [])
 least-is c = toZ-ofZ {w = w32} (record { sfits = c .smaller .ok }) ∙ c .smaller .ensures ∙ rw (own-is (c .before), toZ-ofZ {w = w32} (c .before .before .fits .others))
 
 sign : {x y : ℤ} {t : Bool} → x ≡ y → ltZ x (pos 0) ≡ t → ltZ y (pos 0) ≡ t
@@ -48,7 +48,7 @@ unfolding decisionOf
 returns-3 c =
     let k = c .before .before .before in
     rw (sign (own-is (k .before)) (c .before .before .if1 .left), sign (least-is k) (c .before .if2 .left), c .bound-tick .ensures)
-    (ap (λ (m : ℤ). Accepted (record { tick = delay.boundTick (k .before .before .args .n) (k .before .before .args .a); margin = m })) (least-is k))
+    (ap (λ (m : ℤ). Accepted (record { tick = delay.boundTick (k .before .before .args .l .n) (k .before .before .args .a); margin = m })) (least-is k))
 
 pub decide-spec : {M : Type 1} → statement M
 decide-spec =
