@@ -7,10 +7,10 @@ ghost use Rattle.model.specs.Lists.{all, isZero};
 ghost use Rattle.model.specs.Soundness.{zeroBeyond};
 ghost use Rattle.model.specs.DelayBound.{onTime};
 ghost use Rattle.row_soundness.specs.Limits.{Made};
-ghost use Rattle.record_soundness.specs.Record.{ticksHold, rowsHold};
-use super::due_in_range;
-use super::station_in_use;
+ghost use Rattle.record_flaws.specs.Holds.{ticksHold, rowsHold};
 use model::Order;
+use record_soundness::due_in_range;
+use record_soundness::station_in_use;
 use row_soundness::limits::Limits;
 use row_soundness::limits::counted_total;
 
