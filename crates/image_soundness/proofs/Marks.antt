@@ -5,15 +5,18 @@ use mathlib.Core.List.{List, [], _∷_, _++_}
 use Prim.Native.Nat.{ℕ, suc, _-_, _≤_, _<_}
 use native.Mathlib.Omega.{arith}
 use lib.ListN.{length, getD, set, replicate, length-set, getD-replicate}
-use lib.Seq.{getD-set-same, getD-set-other}
+use lib.Seq.{getD-set-same, getD-set-other, set-getD}
 use lib.Dec.{leb, eqb}
-use borrow.Author.Tests.{leb-true, le-leb, eqb-true, eqb-false, ne-eqb}
+use borrow.Author.Tests.{leb-true, le-leb, eqb-true, eqb-false, eq-eqb, ne-eqb}
 use Rattle.model.specs.declared.Order.{Order}
 use Rattle.model.specs.declared.Service.{Service}
 use Rattle.model.specs.Lists.{at, within, any, numbered}
 use Rattle.model.specs.State.{idle}
+use Rattle.model.specs.Layout.{servicePart}
+use Rattle.model.specs.Image.{serviceOf, servicesOf}
 use Rattle.model.specs.Soundness.{serves}
 use Rattle.image_soundness.specs.Served.{servedBy, markedBy}
+use Rattle.lists.proofs.Fills.{length-upward, getD-upward}
 use Rattle.lists.proofs.Tests.{and-true, and-false, or-false, either, any-more, length-numbered, getD-numbered, is-numbered}
 
 -- A station of the eight, and its place.
@@ -22,6 +25,13 @@ in-range k h = let both = and-eq-true-iff (leb 1 k) (leb k 8) .0 h in (leb-true 
 
 pub place : (k : ℕ) → within 1 8 k ≡ true → k - 1 < 8
 place k h = let range = in-range k h in omega arith
+
+-- The entries of an image, and the one at place k.
+pub length-services : (image : List ℕ) → length (servicesOf image) ≡ 8
+length-services image = length-upward 0 8 (λ i. serviceOf (servicePart image i))
+
+pub entry-is : (image : List ℕ) (k : ℕ) {e : Service} → k < 8 → e ≡ serviceOf (servicePart image k) → e ≡ getD (servicesOf image) k idle
+entry-is image k h e = e ∙ sym (getD-upward 8 (λ i. serviceOf (servicePart image i)) k idle h)
 
 module _ (services : List Service) (eight : length services ≡ 8) where
   pub served-none : replicate 8 false ≡ servedBy services []
@@ -67,7 +77,7 @@ module _ (services : List Service) (eight : length services ≡ 8) where
         (sym (or-false (getD marks i false))))
 
     -- Whether the entry at place k has the order's ticket, and ticks to go from 1 to its cost there.
-    abbrev pub fits : ℕ → Bool
+    abbrev fits : ℕ → Bool
     fits k = eqb (o .ticket) (getD services k idle .ticket) && within 1 (getD (o .costs) k 0) (getD services k idle .left)
 
     -- At its own station that is the test.
@@ -76,7 +86,7 @@ module _ (services : List Service) (eight : length services ≡ 8) where
     here i e = rw (e, and-true (eqb (o .ticket) (getD services i idle .ticket)))
 
     -- An order at one of them.
-    pub marked-own : within 1 8 (o .station) ≡ true → set marks (o .station - 1) (getD marks (o .station - 1) false || fits (o .station - 1)) ≡ markedBy services o marks
+    marked-own : within 1 8 (o .station) ≡ true → set marks (o .station - 1) (getD marks (o .station - 1) false || fits (o .station - 1)) ≡ markedBy services o marks
     unfolding markedBy
     marked-own h =
         let k = o .station - 1 in
@@ -92,3 +102,16 @@ module _ (services : List Service) (eight : length services ≡ 8) where
         let away : o .station ≡ suc i → ⊥ = eqb-false (o .station) (suc i) e in
         getD-set-other marks k i v false (λ j. away (omega arith))
         ∙ rw (elsewhere (suc i) (getD services i idle) away) (sym (or-false (getD marks i false)))))
+
+    -- The same by what the entry at its station says of the ticket.
+    pub marked-ticket : {e : Service} → e ≡ getD services (o .station - 1) idle → within 1 8 (o .station) ≡ true → o .ticket ≡ e .ticket → set marks (o .station - 1) (getD marks (o .station - 1) false || within 1 (getD (o .costs) (o .station - 1) 0) (e .left)) ≡ markedBy services o marks
+    marked-ticket {e} same h t =
+        let k = o .station - 1 in
+        let ours : eqb (o .ticket) (getD services k idle .ticket) ≡ true = eq-eqb (o .ticket) (getD services k idle .ticket) (t ∙ ap (λ (v : Service). v .ticket) same) in
+        rw same (rw ours at (marked-own h))
+
+    pub marked-other : {e : Service} → e ≡ getD services (o .station - 1) idle → within 1 8 (o .station) ≡ true → (o .ticket ≡ e .ticket → ⊥) → marks ≡ markedBy services o marks
+    marked-other {e} same h t =
+        let k = o .station - 1 in
+        let ours : eqb (o .ticket) (getD services k idle .ticket) ≡ false = ne-eqb (o .ticket) (getD services k idle .ticket) (λ z. t (z ∙ ap (λ (v : Service). v .ticket) (sym same))) in
+        sym (set-getD marks k false) ∙ rw (or-false (getD marks k false)) at (rw ours at (marked-own h))

@@ -8,8 +8,8 @@ use native.Mathlib.Numerals.{add-one}
 use native.Mathlib.Omega.{arith}
 use lib.ListN.{length, take, drop}
 use lib.Seq.{take-nil, take-take, take-add, drop-drop, drop-cons, getD-take, getD-drop}
-use lib.Dec.{eqb, eqb·suc-zero}
-use borrow.Author.Tests.{ne-eqb}
+use lib.Dec.{eqb, ltb, eqb·suc-zero}
+use borrow.Author.Tests.{lt-ltb, le-ltb, ne-eqb}
 use Rattle.model.specs.Lists.{part, isZero, all}
 use Rattle.model.specs.Bytes.{byte, half, word}
 use Rattle.lists.proofs.Tests.{and-true, all-append}
@@ -62,3 +62,15 @@ zero-word l a h =
     zero-sum (half l a) (half l (a + 2)) 65536 (omega arith)
     ∙ rw (zero-half l a (omega arith), zero-half l (a + 2) (omega arith))
     (sym (ap (all isZero) (part-add l a 2 2) ∙ all-append isZero (part l a 2) (part l (a + 2) 2)))
+
+-- A number below 256 has one byte.
+one-byte : (a b h : ℕ) → a < 256 → ltb (a + 256 * b + 65536 * h) 256 ≡ (isZero b && isZero h)
+one-byte a zero zero p = lt-ltb (a + 256 * 0 + 65536 * 0) 256 (omega arith)
+one-byte a zero (suc h) p = le-ltb (a + 256 * 0 + 65536 * suc h) 256 (omega arith) ∙ sym (eqb·suc-zero h)
+one-byte a (suc b) h p = le-ltb (a + 256 * suc b + 65536 * h) 256 (omega arith) ∙ sym (ap (λ t. t && isZero h) (eqb·suc-zero b))
+
+pub zero-rest : (l : List ℕ) (a : ℕ) → a + 4 ≤ length l → byte l a < 256 → ltb (word l a) 256 ≡ all isZero (part l (a + 1) 3)
+zero-rest l a h small =
+    let next : a + 1 + 1 ≡ a + 2 = omega arith in
+    one-byte (byte l a) (byte l (a + 1)) (half l (a + 2)) small
+    ∙ rw (zero-half l (a + 2) (omega arith)) (sym (zero-first l (a + 1) 2 (omega arith) ∙ rw next))

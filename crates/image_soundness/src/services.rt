@@ -11,6 +11,7 @@ ghost use Rattle.model.specs.Image.{liveCount, servicesOf, ordersOf, decode};
 ghost use Rattle.model.specs.Soundness.{isIdle, servicesInOrder};
 ghost use Rattle.image_soundness.specs.Served.{servedBy, markedBy};
 use image::decode::order_at;
+use image::decode::service_at;
 use model::Order;
 use model::Service;
 
@@ -37,29 +38,31 @@ pub fn idle_beyond(n: u32, services: [Service; 8]) -> bool
 }
 
 // Marks an order's station as served, if the entry there has its ticket and ticks to go from 1 to its cost. In place:
-// copies of the marks for each record would take longer than the tests.
-fn mark(served: &mut [bool; 8], services: [Service; 8], o: Order)
-    requires { ⌜ length (now served) ≡ maxStations ⌝ }
-    ensures { λ _. ⌜ now (served .exit) ≡ markedBy services o (now (served .entry)) ⌝ }
+// copies of the marks, or of the entries, for each record would take longer than the tests.
+fn mark(served: &mut [bool; 8], image: &[u8], o: Order)
+    requires { ⌜ (length (now served) ≡ maxStations) × (length (now image) ≡ imageSize) ⌝ }
+    ensures { λ _. ⌜ now (served .exit) ≡ markedBy (servicesOf (now (image .entry))) o (now (served .entry)) ⌝ }
 {
     let costs = o.costs;
     if (1 <= o.station) & (o.station <= 8) {
         let k = (o.station - 1) as usize;
-        let e = services[k];
-        served[k] = served[k] | ((o.ticket == e.ticket) & ((1 <= e.left) & (e.left <= costs[k])));
+        let e = service_at(image, k);
+        if o.ticket == e.ticket {
+            served[k] = served[k] | ((1 <= e.left) & (e.left <= costs[k]));
+        }
     }
 }
 
 // The stations whose entries the live records serve: one pass over the records, in place of a search for each station.
-fn served_by(image: &[u8], live: usize, services: [Service; 8]) -> [bool; 8]
+fn served_by(image: &[u8], live: usize) -> [bool; 8]
     requires { ⌜ (length (now image) ≡ imageSize) × (live ≤ maxLive) ⌝ }
-    ensures { λ r. ⌜ r ≡ servedBy services (ordersOf (now (image .entry)) live) ⌝ }
+    ensures { λ r. ⌜ r ≡ servedBy (servicesOf (now (image .entry))) (ordersOf (now (image .entry)) live) ⌝ }
 {
     let mut served = [false; 8];
     let mut i: usize = 0;
     while i < live {
         let o = order_at(image, i);
-        mark(&mut served, services, o);
+        mark(&mut served, image, o);
         i += 1;
     }
     served
@@ -72,7 +75,7 @@ pub fn services_in_order(image: &[u8], n: u32, live: usize, services: [Service; 
     requires { ⌜ (length (now image) ≡ imageSize) × (live ≡ liveCount (now image)) × (live ≤ maxLive) × (n ≡ byte (now image) stationCountAt) × (services ≡ servicesOf (now image)) ⌝ }
     ensures { λ r. ⌜ r ≡ servicesInOrder (decode (now (image .entry))) ⌝ }
 {
-    let served = served_by(image, live, services);
+    let served = served_by(image, live);
     let mut holds = true;
     let mut k: usize = 0;
     while k < 8 {

@@ -16,7 +16,7 @@ use image::layout::RECORDS_AT;
 use image::layout::SERVICE_SIZE;
 use image::layout::SERVICE_ZERO_AT;
 use image::layout::SERVICES_AT;
-use image::layout::STATION_ZERO_AT;
+use image::layout::STATION_AT;
 use little_endian_reader::u16_at;
 use little_endian_reader::u32_at;
 
@@ -28,15 +28,14 @@ fn service_zero(image: &[u8], i: usize) -> bool
     u16_at(image, SERVICES_AT + SERVICE_SIZE * i + SERVICE_ZERO_AT) == 0
 }
 
-// The zero bytes of the record at place i: three after the station, four at the end.
+// The zero bytes of the record at place i: three after the station, which read with it are a number of one byte, and four
+// at the end.
 fn record_zero(image: &[u8], i: usize) -> bool
     requires { ⌜ (length (now image) ≡ imageSize) × (i < maxLive) ⌝ }
     ensures { λ r. ⌜ r ≡ all isZero (recordZeros (now (image .entry)) i) ⌝ }
 {
     let at = RECORDS_AT + RECORD_SIZE * i;
-    (image[at + STATION_ZERO_AT] == 0)
-        & (u16_at(image, at + STATION_ZERO_AT + 1) == 0)
-        & (u32_at(image, at + RECORD_ZERO_AT) == 0)
+    (u32_at(image, at + STATION_AT) < 256) & (u32_at(image, at + RECORD_ZERO_AT) == 0)
 }
 
 // Those of all station entries, and of all live records.
@@ -76,16 +75,17 @@ pub fn zero_bytes_zero(image: &[u8], live: usize) -> bool
 }
 
 // "unused records zero". Neither an image of 31 live records whose last byte is 1 let through, nor one refused for a byte
-// of the last live record, meets the promise. No early exit, so that a compiler can take many bytes together.
+// of the last live record, meets the promise. The bytes are laid one over the other and asked for once, so that a compiler
+// can take many of them together.
 pub fn unused_records_zero(image: &[u8], live: usize) -> bool
     requires { ⌜ (length (now image) ≡ imageSize) × (live ≡ liveCount (now image)) × (live ≤ maxLive) ⌝ }
     ensures { λ r. ⌜ r ≡ unusedRecordsZero (now (image .entry)) ⌝ }
 {
-    let mut holds = true;
+    let mut found: u8 = 0;
     let mut i = RECORDS_AT + RECORD_SIZE * live;
     while i < IMAGE_SIZE {
-        holds = holds & (image[i] == 0);
+        found = found | image[i];
         i += 1;
     }
-    holds
+    found == 0
 }

@@ -1,10 +1,10 @@
 -- The clauses of one record, by the names that the code gives them.
-use mathlib.Core.Bool.{Bool, _&&_}
+use mathlib.Core.Bool.{_&&_}
 use Prim.Native.Nat.{ℕ}
 use lib.Dec.{leb}
 use Rattle.model.specs.declared.Order.{Order}
 use Rattle.model.specs.DelayBound.{onTime}
-use Rattle.model.specs.Soundness.{dueInRange, stationInUse, costsInRange, maximaInRange, sumInRange, zeroBeyond, recordZeroBeyond}
+use Rattle.model.specs.Soundness.{dueInRange, stationInUse, costsInRange, maximaInRange, sumInRange, recordZeroBeyond}
 use Rattle.record_soundness.specs.declared.Tests.{Tests}
 
 -- The clauses of a record in a pipeline of n stations whose clock shows `clock`.
@@ -34,15 +34,3 @@ bothOf a b =
       «on_time» = a .«on_time» && b .«on_time»;
       beyond = a .beyond && b .beyond;
     }
-
--- The clauses by what is looked at: ticks and station; the rows of costs and maxima.
-unfoldable pub ticksHold : ℕ → ℕ → Order → Bool
-ticksHold n clock o = leb (o .accepted) clock && dueInRange o && stationInUse n o && onTime n o
-
-unfoldable pub rowsHold : ℕ → Order → Bool
-rowsHold n o = costsInRange n (o .costs) && maximaInRange n o && sumInRange o && zeroBeyond n (o .costs) && zeroBeyond n (o .maxima)
-
--- Whether every clause holds.
-unfoldable pub recordHolds : ℕ → ℕ → Order → Bool
-recordHolds n clock o =
-    leb (o .accepted) clock && dueInRange o && stationInUse n o && costsInRange n (o .costs) && maximaInRange n o && sumInRange o && onTime n o && recordZeroBeyond n o

@@ -1,5 +1,4 @@
 // Document 01, "Sound means", for one live order's record: each clause a function, and all of them by name.
-pub mod flaws; // flaws.rt: the records of all live orders together
 
 ghost use mathlib.Core.Path.{_≡_};
 ghost use Prim.Native.Nat.{_<_};
@@ -29,7 +28,7 @@ fn wide(x: u32) -> u64
 }
 
 // "due tick 1 to 60,000 after acceptance and at most 4,000,000,000"
-fn due_in_range(o: Order) -> bool
+pub fn due_in_range(o: Order) -> bool
     ensures { λ r. ⌜ r ≡ dueInRange o ⌝ }
 {
     let accepted = wide(o.accepted);
@@ -38,7 +37,7 @@ fn due_in_range(o: Order) -> bool
 }
 
 // "station 1 to N"
-fn station_in_use(n: u32, o: Order) -> bool
+pub fn station_in_use(n: u32, o: Order) -> bool
     ensures { λ r. ⌜ r ≡ stationInUse n o ⌝ }
 {
     (1 <= o.station) & (o.station <= n)

@@ -33,6 +33,7 @@ fn first_places(count: usize, x: u16) -> [u16; 8]
     row
 }
 
+// Neither 6,001 for a maximum nor a limit of 1 at station n + 1 meets the promise.
 pub fn limits_of(n: u32) -> Limits
     requires { ⌜ (1 ≤ n) × (n ≤ maxStations) ⌝ }
     ensures { λ r. ⌜ r ≡ limitsOf n ⌝ }
@@ -48,7 +49,8 @@ pub fn limits_of(n: u32) -> Limits
     }
 }
 
-// The entries of the stations before n, added up: `before_last`, with the places that count as a row.
+// The entries of the stations before n, added up: `before_last`, with the places that count as a row. Neither station n's
+// entry added nor station n - 1's left out meets the promise.
 pub fn counted_total(l: Limits, maxima: [u16; 8]) -> u32
     requires { ⌜ Made l ⌝ }
     ensures { λ r. ⌜ r ≡ total (take (l .n - 1) maxima) ⌝ }

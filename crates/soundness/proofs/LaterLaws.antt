@@ -16,7 +16,7 @@ use Rattle.model.specs.DelayBound.{onTime}
 use Rattle.model.specs.Soundness.{clockInRange, zeroBytesZero, unusedRecordsZero, ticketsInOrder, acceptedByNow, dueInRange, stationInUse, costsInRange, maximaInRange, sumInRange, recordZeroBeyond, isIdle, fieldsBeyondZero, servicesInOrder}
 use Rattle.lists.proofs.Tests.{and-true, and-assoc, all-both}
 use Rattle.record_soundness.specs.declared.Tests.{Tests}
-use Rattle.record_soundness.specs.Record.{recordHolds}
+use Rattle.record_flaws.specs.Holds.{recordHolds}
 use Rattle.soundness.specs.declared.Clauses.{Clauses}
 use Rattle.soundness.specs.Records.{testsOfAll}
 use Rattle.soundness.specs.Flaw.{laterClauses, listOf, laterHold}

@@ -10,8 +10,9 @@ use Rattle.model.specs.Lists.{all, isZero, upward}
 use Rattle.model.specs.DelayBound.{onTime}
 use Rattle.model.specs.Soundness.{dueInRange, stationInUse, costsInRange, maximaInRange, sumInRange, zeroBeyond, recordZeroBeyond}
 use Rattle.lists.proofs.Tests.{and-middle, all-upward, one-fails, zeros-zero}
-use Rattle.record_soundness.specs.Record.{testsOf, bothOf, ticksHold, rowsHold, recordHolds}
-use Rattle.record_soundness.proofs.FlawLaws.{holds-is}
+use Rattle.record_soundness.specs.Record.{testsOf, bothOf}
+use Rattle.record_flaws.specs.Holds.{ticksHold, rowsHold, recordHolds}
+use Rattle.record_flaws.proofs.FlawLaws.{holds-is}
 use Rattle.soundness.specs.Records.{testsOfAll}
 
 module _ (n clock : ℕ) (f : ℕ → Order) where

@@ -1,50 +1,54 @@
--- An order marks its own station, and none where it is at none of the eight.
+-- An order marks its own station where the entry there has its ticket, and else none.
 use borrow.Author.Needs.{needs}
-use native.Mathlib.Omega.{arith}
-use mathlib.Core.Path.{_≡_}
-use lib.ListN.{length}
+use Prim.Native.Nat.{_-_}
 use denote.Ref.{now}
-use Rattle.lists.proofs.Fills.{length-mapped}
-use Rattle.image_soundness.proofs.Marks.{in-range, place, marked-none, marked-own}
+use Rattle.model.specs.Image.{servicesOf}
+use Rattle.image_soundness.proofs.Marks.{in-range, place, length-services, entry-is, marked-none, marked-ticket, marked-other}
 use Rattle.image_soundness.proofs.services.mark.Statement.{statement}
 use Rattle.image_soundness.proofs.services.mark.Tie as tie
 
 sub-k : tie.Need-sub-k
-sub-k c = in-range (c .before .before .before .before .before .args .o .station) (c .before .if1 .taken) .0
+sub-k c = in-range (c .before .before .before .before .before .before .args .o .station) (c .before .if1 .taken) .0
 
 cast-k : tie.Need-cast-k
-cast-k c = omega arith
+cast-k c = search needs
 
-mul-e : tie.Need-mul-e
-mul-e c = omega arith
-
-array-copy-out-e : tie.Need-array-copy-out-e
-array-copy-out-e c = place _ (c .before .if1 .taken)
+service-at-requires : tie.Need-service-at-requires
+service-at-requires c κs = (c .before .before .before .before .before .before .pre .1, place _ (c .before .if1 .taken))
 
 element-copy-out-served : tie.Need-element-copy-out-served
-element-copy-out-served c = place _ (c .before .before .if1 .taken)
+element-copy-out-served c = place _ (c .before .before .before .before .before .if1 .taken)
 
 mul-served : tie.Need-mul-served
-mul-served c = omega arith
+mul-served c = search needs
 
 array-read-served : tie.Need-array-read-served
-array-read-served c = place _ (c .before .before .before .before .before .before .if1 .taken)
+array-read-served c = place _ (c .before .before .before .before .before .before .before .if1 .taken)
 
 element-write-served : tie.Need-element-write-served
-element-write-served c = place _ (c .before .before .before .before .before .before .before .if1 .taken)
-
-long : (c : tie.Start) → length (c .args .t2) ≡ 8
-long c = search (needs, length-mapped)
+element-write-served c = place _ (c .before .before .before .before .before .before .before .before .if1 .taken)
 
 returns : tie.Need-returns
 returns c =
-    let top = c .before .before .before .before .before .before .before .before .before .before .before in
-    marked-own (top .args .t2) (long top) (now (top .args .served)) (top .pre) (top .args .o) (c .before .before .before .before .before .before .before .if1 .taken)
+    let here = c .before .before .before .before .before .before .before .before in
+    let top = here .before .before .before .before .before in
+    let image = top .args .image .now in
+    let own = entry-is image (top .args .o .station - 1) (place _ (here .if1 .taken)) (c .before .before .before .before .before .before .service-at .ensures) in
+    marked-ticket (servicesOf image) (length-services image) (now (top .args .served)) (top .pre .0) (top .args .o) own (here .if1 .taken) (c .before .before .before .if2 .taken)
 
 returns-2 : tie.Need-returns-2
 returns-2 c =
-    let top = c .before .before .before .before in
-    marked-none (top .args .t2) (long top) (now (top .args .served)) (top .pre) (top .args .o) (c .if1 .left)
+    let here = c .before .before .before .before .before in
+    let top = here .before .before .before .before .before in
+    let image = top .args .image .now in
+    let own = entry-is image (top .args .o .station - 1) (place _ (here .if1 .taken)) (c .before .before .before .service-at .ensures) in
+    marked-other (servicesOf image) (length-services image) (now (top .args .served)) (top .pre .0) (top .args .o) own (here .if1 .taken) (c .if2 .left)
+
+returns-3 : tie.Need-returns-3
+returns-3 c =
+    let top = c .before .before .before .before .before in
+    let image = top .args .image .now in
+    marked-none (servicesOf image) (length-services image) (now (top .args .served)) (top .pre .0) (top .args .o) (c .if1 .left)
 
 pub mark-spec : {M : Type 1} → statement M
 mark-spec =
@@ -52,11 +56,11 @@ mark-spec =
     (tie.spec
     sub-k
     cast-k
-    mul-e
-    array-copy-out-e
+    service-at-requires
     element-copy-out-served
     mul-served
     array-read-served
     element-write-served
     returns
-    returns-2)
+    returns-2
+    returns-3)

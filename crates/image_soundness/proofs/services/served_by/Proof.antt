@@ -1,30 +1,26 @@
 -- The marks so far are those of the records so far.
-use borrow.Author.Needs.{needs}
 use native.Mathlib.Omega.{arith}
 use mathlib.Core.Path.{_≡_, sym, ap, _∙_}
 use Prim.Native.Nat.{_-_, _≤_}
 use lib.ListN.{length}
 use Rattle.model.specs.Lists.{upward}
 use Rattle.model.specs.Layout.{recordPart}
-use Rattle.model.specs.Image.{orderOf, ordersOf}
-use Rattle.lists.proofs.Fills.{length-mapped, upward-more}
+use Rattle.model.specs.Image.{orderOf, servicesOf, ordersOf}
+use Rattle.lists.proofs.Fills.{upward-more}
 use Rattle.image_soundness.specs.Served.{servedBy}
-use Rattle.image_soundness.proofs.Marks.{served-none, length-served, served-more}
+use Rattle.image_soundness.proofs.Marks.{length-services, served-none, length-served, served-more}
 use Rattle.image_soundness.proofs.services.served_by.Statement.{statement}
 use Rattle.image_soundness.proofs.services.served_by.Tie as tie
 
 abbrev Inv-loop : tie.InvT-loop
-Inv-loop image live services served₀ i₀ served i = (i ≤ live) × (served ≡ servedBy services (ordersOf image i))
+Inv-loop image live served₀ i₀ served i = (i ≤ live) × (served ≡ servedBy (servicesOf image) (ordersOf image i))
 
 abbrev μ-loop : tie.MeasureT-loop
-μ-loop image live services served₀ i₀ served i = live - i
-
-long : (c : tie.Start Inv-loop μ-loop) → length (c .args .services) ≡ 8
-long c = search (needs, length-mapped)
+μ-loop image live served₀ i₀ served i = live - i
 
 loop-holds : tie.Need-loop-holds Inv-loop μ-loop
 unfolding upward
-loop-holds c = (omega arith, served-none _ (long (c .before)))
+loop-holds c = (omega arith, served-none _ (length-services (c .before .args .image .now)))
 
 order-at-requires : tie.Need-order-at-requires Inv-loop μ-loop
 order-at-requires c κs = (omega arith, omega arith)
@@ -32,7 +28,7 @@ order-at-requires c κs = (omega arith, omega arith)
 mark-requires : tie.Need-mark-requires Inv-loop μ-loop
 mark-requires c κs =
     let here = c .before .before .before in
-    ap length (here .loop .inv .1) ∙ length-served _ (long (here .before .before)) _
+    (ap length (here .loop .inv .1) ∙ length-served _ (length-services _) _, omega arith)
 
 add-i : tie.Need-add-i Inv-loop μ-loop
 add-i c = omega arith
@@ -46,10 +42,10 @@ loop-again c =
     let top = here .before .before in
     let image = top .args .image .now in
     let i = here .loop .i in
-    let services = top .args .services in (
+    let services = servicesOf image in (
       omega arith,
       c .mark .ensures
-          ∙ rw (here .loop .inv .1, c .before .before .order-at .ensures) (served-more services (long top) (ordersOf image i) (orderOf (recordPart image i)))
+          ∙ rw (here .loop .inv .1, c .before .before .order-at .ensures) (served-more services (length-services image) (ordersOf image i) (orderOf (recordPart image i)))
           ∙ ap (servedBy services) (sym (upward-more i (λ k. orderOf (recordPart image k)))),
     )
 

@@ -63,7 +63,7 @@ loop-again c =
     let services = top .args .t4 in
     let k = here .loop .k in (
       omega arith,
-      rw (here .loop .inv .1, c .idle .ensures, here .before .served-by .ensures, served-at services (long top) orders k (omega arith))
+      rw (here .loop .inv .1, c .idle .ensures, here .before .served-by .ensures, ← top .pre .4, served-at services (long top) orders k (omega arith))
           (sym (stations-more (idleOrServed orders) idle (top .args .n) services k (omega (arith, long top)))),
     )
 

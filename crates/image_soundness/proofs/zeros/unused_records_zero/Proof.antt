@@ -6,17 +6,19 @@ use lib.ListN.{take, drop, drop-of-length-le}
 use lib.Seq.{length-take-le, take-all}
 use borrow.Author.Tests.{le-ltb}
 use Rattle.model.specs.Lists.{isZero, all}
+use Rattle.model.specs.Bytes.{byte}
 use Rattle.model.specs.Image.{liveCount}
 use Rattle.model.specs.Soundness.{unusedRecordsZero}
 use Rattle.lists.proofs.Tests.{all-beyond}
+use Rattle.lists.proofs.Overlays.{zero-both}
 use Rattle.image_soundness.proofs.zeros.unused_records_zero.Statement.{statement}
 use Rattle.image_soundness.proofs.zeros.unused_records_zero.Tie as tie
 
 abbrev Inv-loop : tie.InvT-loop
-Inv-loop image live holds₀ i₀ holds i = (80 + 64 * live ≤ i) × (i ≤ 2128) × (holds ≡ all isZero (drop (80 + 64 * live) (take i image)))
+Inv-loop image live found₀ i₀ found i = (80 + 64 * live ≤ i) × (i ≤ 2128) × (isZero found ≡ all isZero (drop (80 + 64 * live) (take i image)))
 
 abbrev μ-loop : tie.MeasureT-loop
-μ-loop image live holds₀ i₀ holds i = 2128 - i
+μ-loop image live found₀ i₀ found i = 2128 - i
 
 mul-i : tie.Need-mul-i Inv-loop μ-loop
 mul-i c = omega arith
@@ -31,8 +33,8 @@ loop-holds c =
     let at = 80 + 64 * c .args .live in
     (omega arith, omega arith, rw (drop-of-length-le (take at image) {i = at} (omega (arith, length-take-le at image (omega arith)))))
 
-shared-slice-read-holds : tie.Need-shared-slice-read-holds Inv-loop μ-loop
-shared-slice-read-holds c = omega arith
+shared-slice-read-found : tie.Need-shared-slice-read-found Inv-loop μ-loop
+shared-slice-read-found c = omega arith
 
 add-i-2 : tie.Need-add-i-2 Inv-loop μ-loop
 add-i-2 c = omega arith
@@ -46,7 +48,7 @@ loop-again c =
     let image = here .before .args .image .now in
     let i = here .loop .i in
     let at = 80 + 64 * here .before .args .live in
-    (omega arith, omega arith, rw (here .loop .inv .2) (sym (all-beyond isZero 0 at image i (omega arith) ∙ rw (le-ltb i at (omega arith)))))
+    (omega arith, omega arith, zero-both (here .loop .found) (byte image i) ∙ rw (here .loop .inv .2) (sym (all-beyond isZero 0 at image i (omega arith) ∙ rw (le-ltb i at (omega arith)))))
 
 returns : tie.Need-returns Inv-loop μ-loop
 unfolding unusedRecordsZero
@@ -65,7 +67,7 @@ unused-records-zero-spec =
     mul-i
     add-i
     loop-holds
-    shared-slice-read-holds
+    shared-slice-read-found
     add-i-2
     loop-less
     loop-again

@@ -10,7 +10,7 @@ use Rattle.model.specs.Image.{ordersOf}
 use Rattle.model.specs.Soundness.{zeroBeyond}
 use Rattle.row_soundness.specs.declared.limits.Limits.{Limits}
 use Rattle.row_soundness.proofs.LimitLaws.{made}
-use Rattle.record_soundness.specs.Record.{recordHolds}
+use Rattle.record_flaws.specs.Holds.{recordHolds}
 use Rattle.soundness.proofs.RecordLaws.{held-none, held-more, held-fails}
 use Rattle.soundness.proofs.records.all_hold.Statement.{statement}
 use Rattle.soundness.proofs.records.all_hold.Tie as tie

@@ -7,10 +7,10 @@ ghost use Rattle.model.specs.Lists.{all, isZero};
 ghost use Rattle.model.specs.Soundness.{zeroBeyond};
 ghost use Rattle.model.specs.DelayBound.{onTime};
 ghost use Rattle.row_soundness.specs.Limits.{Made};
-ghost use Rattle.record_soundness.specs.Record.{ticksHold, rowsHold};
-use super::due_in_range;
-use super::station_in_use;
+ghost use Rattle.record_flaws.specs.Holds.{ticksHold, rowsHold};
 use model::Order;
+use record_soundness::due_in_range;
+use record_soundness::station_in_use;
 use row_soundness::limits::Limits;
 use row_soundness::limits::counted_total;
 
@@ -44,7 +44,8 @@ fn on_time_within(l: Limits, o: Order) -> bool
     (o.accepted <= o.due) & (o.sum <= span) & (counted_total(l, maxima) <= above_wide(span, o.sum))
 }
 
-// The clauses of a record's ticks and station.
+// The clauses of a record's ticks and station. Neither an order accepted now refused nor one that is out a tick after its
+// due tick let through meets the promise.
 pub fn ticks_hold(l: Limits, clock: u32, o: Order) -> bool
     requires { ⌜ Made l ⌝ }
     ensures { λ r. ⌜ r ≡ ticksHold (l .n) clock o ⌝ }
@@ -52,8 +53,9 @@ pub fn ticks_hold(l: Limits, clock: u32, o: Order) -> bool
     (o.accepted <= clock) & due_in_range(o) & station_in_use(l.n, o) & on_time_within(l, o)
 }
 
-// The flaws of the rows so far with those of one record more. 0 at a place says that every cost there is at least the least,
-// every maximum at least the cost and at most the most, and every sum at least the cost.
+// The flaws of the rows so far with those of one record more. 0 at a place says that every cost there is at least the
+// least, every maximum at least the cost and at most the most, and every sum at least the cost. Neither a cost of 0 at a
+// station let through nor a flaw for a maximum of 6,000 meets the promise.
 pub fn flaws_with(flaws: [u16; 8], l: Limits, o: Order) -> [u16; 8]
     requires { ⌜ Made l ⌝ }
     ensures { λ r. ⌜ all isZero r ≡ (all isZero flaws && rowsHold (l .n) o) ⌝ }
@@ -74,7 +76,8 @@ pub fn flaws_with(flaws: [u16; 8], l: Limits, o: Order) -> [u16; 8]
     row
 }
 
-// Ranks of all records laid one over the other: 0 at a place says that every rank there is 0.
+// Ranks of all records laid one over the other: 0 at a place says that every rank there is 0. Neither the last order's ranks
+// alone nor what all ranks have in common meets the promise.
 pub fn ranks_with(ranks: [u8; 8], o: Order) -> [u8; 8]
     ensures { λ r. ⌜ ((n : ℕ) → zeroBeyond n r ≡ (zeroBeyond n ranks && zeroBeyond n (o .ranks))) ⌝ }
 {

@@ -8,9 +8,9 @@ use borrow.Author.Needs.{needs}
 use Rattle.model.specs.Lists.{upward}
 use Rattle.model.specs.Soundness.{zeroBeyond}
 use Rattle.lists.proofs.Fills.{fill-start, fill-next, fill-end}
-use Rattle.record_soundness.proofs.FlawLaws.{overlaid-beyond}
-use Rattle.record_soundness.proofs.flaws.ranks_with.Statement.{statement}
-use Rattle.record_soundness.proofs.flaws.ranks_with.Tie as tie
+use Rattle.record_flaws.proofs.FlawLaws.{overlaid-beyond}
+use Rattle.record_flaws.proofs.ranks_with.Statement.{statement}
+use Rattle.record_flaws.proofs.ranks_with.Tie as tie
 
 abbrev Inv-loop : tie.InvT-loop
 Inv-loop ranks own row₀ k₀ row k = (k ≤ 8) × (length row ≡ 8) × (take k row ≡ upward 0 k (λ i. bitOr (getD ranks i 0) (getD own i 0)))

@@ -1,8 +1,8 @@
 -- Clause by clause.
 use borrow.Author.Needs.{needs}
-use Rattle.record_soundness.specs.Record.{ticksHold}
-use Rattle.record_soundness.proofs.flaws.ticks_hold.Statement.{statement}
-use Rattle.record_soundness.proofs.flaws.ticks_hold.Tie as tie
+use Rattle.record_flaws.specs.Holds.{ticksHold}
+use Rattle.record_flaws.proofs.ticks_hold.Statement.{statement}
+use Rattle.record_flaws.proofs.ticks_hold.Tie as tie
 
 due-in-range-requires : tie.Need-due-in-range-requires
 due-in-range-requires c κs = search needs

@@ -8,9 +8,9 @@ use mir.Val.{Fits}
 use borrow.Author.Needs.{needs}
 use Rattle.model.specs.Lists.{upward}
 use Rattle.lists.proofs.Fills.{fill-start, fill-next}
-use Rattle.record_soundness.proofs.FlawLaws.{gathered, gathered-all}
-use Rattle.record_soundness.proofs.flaws.flaws_with.Statement.{statement}
-use Rattle.record_soundness.proofs.flaws.flaws_with.Tie as tie
+use Rattle.record_flaws.proofs.FlawLaws.{gathered, gathered-all}
+use Rattle.record_flaws.proofs.flaws_with.Statement.{statement}
+use Rattle.record_flaws.proofs.flaws_with.Tie as tie
 
 abbrev Inv-loop : tie.InvT-loop
 Inv-loop flaws least most costs maxima sum row₀ k₀ row k = (k ≤ 8) × (length row ≡ 8) × (take k row ≡ upward 0 k (gathered flaws least most costs maxima sum))

@@ -1,8 +1,8 @@
 -- What is left to the due tick, twice.
 use borrow.Author.Needs.{needs}
-use Rattle.record_soundness.proofs.FlawLaws.{on-time-is}
-use Rattle.record_soundness.proofs.flaws.on_time_within.Statement.{statement}
-use Rattle.record_soundness.proofs.flaws.on_time_within.Tie as tie
+use Rattle.record_flaws.proofs.FlawLaws.{on-time-is}
+use Rattle.record_flaws.proofs.on_time_within.Statement.{statement}
+use Rattle.record_flaws.proofs.on_time_within.Tie as tie
 
 above-wide-requires : tie.Need-above-wide-requires
 above-wide-requires c κs = search needs

@@ -23,7 +23,7 @@ use Rattle.roundtrip.proofs.Clauses.{zero-beyond, costs-say, maxima-say}
 use Rattle.row_soundness.specs.declared.limits.Limits.{Limits}
 use Rattle.row_soundness.specs.Limits.{firstPlaces, Made}
 use Rattle.row_soundness.proofs.LimitLaws.{first-place}
-use Rattle.record_soundness.specs.Record.{ticksHold, rowsHold, recordHolds}
+use Rattle.record_flaws.specs.Holds.{ticksHold, rowsHold, recordHolds}
 
 -- Two tests of one fact.
 pub same-fact : {a b : Bool} {P : Type 0} → Says a P → Says b P → a ≡ b

@@ -1,0 +1,2 @@
+-- The clauses of a record, together.
+pub mod Holds
