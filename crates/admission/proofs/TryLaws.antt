@@ -10,7 +10,7 @@ use lib.Signed.{ltZ}
 use lib.Dec.{leb, ltb}
 use mir.Syntax.{w32}
 use mir.Val.{SFits}
-use borrow.Author.Tests.{le-ltb, lt-ltb, le-leb, lt-leb, ltb-true, ltb-false}
+use borrow.Author.Tests.{le-ltb, le-leb, lt-leb, ltb-true, ltb-false}
 use Rattle.model.specs.declared.Block.{Block}
 use Rattle.model.specs.declared.Order.{Order}
 use Rattle.model.specs.Lists.{all}

@@ -9,7 +9,6 @@ use Rattle.model.specs.declared.Order.{Order}
 use Rattle.model.specs.DelayBound.{boundTick, margin}
 use Rattle.model.specs.Questions.{Answer, zeros}
 use Rattle.model.specs.Admission.{dueOf, smallest}
-use Rattle.admission.specs.declared.decision.Figures.{Figures}
 use Rattle.admission.specs.declared.decision.Reply.{Reply}
 use Rattle.admission.specs.declared.decision.Decision.{Decision}
 use Rattle.admission.specs.declared.decision.Decision.the-variants.{Accepted, Costs, DueIn, DueTick, Tickets, Room, Late, Delaying}

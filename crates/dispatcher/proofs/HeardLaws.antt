@@ -6,7 +6,6 @@ use mathlib.Core.List.{List, [], _∷_, _++_, map}
 use Prim.Native.Nat.{ℕ, _+_, _≤_}
 use native.Mathlib.Omega.{arith}
 use lib.ListN.{length, length-append, length-map}
-use lib.Dec.{eqb}
 use borrow.Author.Tests.{eq-eqb, ne-eqb}
 use Rattle.model.specs.declared.Block.{Block}
 use Rattle.model.specs.Limits.{maxLive}
@@ -14,10 +13,10 @@ use Rattle.model.specs.Lists.{isZero}
 use Rattle.model.specs.Bytes.{fourBytes, bits32}
 use Rattle.model.specs.State.{State}
 use Rattle.model.specs.Layout.{imageSize, blockSize, replySize}
-use Rattle.model.specs.Image.{marked, liveCount, decode, encode}
+use Rattle.model.specs.Image.{liveCount, decode, encode}
 use Rattle.model.specs.Soundness.{liveCountInRange, sound}
-use Rattle.model.specs.Questions.{Question, firstNo, Answer, replyBytes}
-use Rattle.model.specs.Admission.{blockOf, arrival, joinedBy, joinedLive, accept, blockLengthQuestion, blockQuestions, counterQuestions, orderQuestions, offerAnswer, quoteAnswer}
+use Rattle.model.specs.Questions.{firstNo, Answer, replyBytes}
+use Rattle.model.specs.Admission.{blockOf, arrival, joinedBy, joinedLive, accept, blockLengthQuestion, blockQuestions, counterQuestions, orderQuestions}
 use Rattle.model.specs.Calls.{replyQuestion, lengthQuestion, imageQuestions, offerNumber, offerCall, quoteCall, result}
 use Rattle.image.specs.declared.Pipeline.{Pipeline}
 use Rattle.image.specs.Pipeline.{padded, listed, Readable}

@@ -7,13 +7,13 @@ use native.Mathlib.Omega.{arith}
 use lib.ListN.{length}
 use lib.Dec.{eqb}
 use borrow.Author.Tests.{eq-eqb, ne-eqb, eqb-true}
-use Rattle.model.specs.Lists.{all, isZero}
-use Rattle.model.specs.Bytes.{fourBytes, bits32}
+use Rattle.model.specs.Lists.{all}
+use Rattle.model.specs.Bytes.{fourBytes}
 use Rattle.model.specs.Layout.{imageSize, blockSize, replySize}
-use Rattle.model.specs.Image.{marked, decode, encode}
+use Rattle.model.specs.Image.{marked, decode}
 use Rattle.model.specs.Soundness.{sound}
-use Rattle.model.specs.Questions.{Question, _else_, firstNo, Answer, replyBytes, zeros}
-use Rattle.model.specs.Admission.{blockOf, accept, blockLengthQuestion, blockQuestions, counterQuestions, orderQuestions, offerAnswer, quoteAnswer}
+use Rattle.model.specs.Questions.{Question, _else_, firstNo, replyBytes, zeros}
+use Rattle.model.specs.Admission.{blockOf, blockLengthQuestion, blockQuestions, counterQuestions, orderQuestions, offerAnswer, quoteAnswer}
 use Rattle.model.specs.Calls.{replyQuestion, lengthQuestion, imageQuestions, offerNumber, offerCall, quoteCall, result}
 use Rattle.lists.proofs.Tests.{and-both}
 use Rattle.offers.proofs.Questions.{answer, gives-other, first-no}

@@ -1,7 +1,7 @@
 // Margins (document 01: "due tick minus that total, a whole number that may be below zero").
 ghost use mathlib.Core.Path.{_≡_};
-ghost use mathlib.Core.List.{[], _∷_, map};
-ghost use Prim.Native.Nat.{ℕ, _+_, _<_, _≤_};
+ghost use mathlib.Core.List.{[], _∷_};
+ghost use Prim.Native.Nat.{_+_, _<_, _≤_};
 ghost use lib.ListN.{take};
 ghost use lib.IntN.{pos};
 ghost use Rattle.model.specs.declared.Order as order;
@@ -9,7 +9,7 @@ ghost use Rattle.model.specs.Limits.{maxLive};
 ghost use Rattle.model.specs.Bytes.{bits32};
 ghost use Rattle.model.specs.DelayBound.{boundTick};
 ghost use Rattle.model.specs.DelayBound as delay;
-ghost use Rattle.model.specs.Admission.{joinedBy, smallest};
+ghost use Rattle.model.specs.Admission.{smallest};
 ghost use Rattle.schedule.specs.Valid.{_∈_};
 ghost use Rattle.row_soundness.specs.Limits.{Made};
 ghost use Rattle.margins.specs.Margins.{MarginFits, Tryable, Tries};

@@ -1,7 +1,7 @@
 -- The length of each text by the lengths of its parts, and lines as rows that are given by their places. By taking `++` apart.
 use mathlib.Core.Bool.{true, false}
 use mathlib.Core.Path.{_≡_, ap}
-use mathlib.Core.List.{List, [], _++_}
+use mathlib.Core.List.{List, _++_}
 use Prim.Native.Nat.{ℕ, _+_, _≤_}
 use native.Mathlib.Omega.{arith}
 use lib.ListN.{length, getD, take, length-append}

@@ -1,5 +1,4 @@
 -- The record with two fields set.
-use mathlib.Core.Path.{_≡_}
 use borrow.Author.Needs.{needs}
 use Rattle.model.specs.Admission.{joinedBy}
 use Rattle.interference.proofs.joined_by.Statement.{statement}

@@ -1,6 +1,4 @@
 -- The parts do not pass 32 bits, since the whole does not.
-use mathlib.Core.Path.{_≡_}
-use Prim.Native.Nat.{_+_, _<_}
 use native.Mathlib.Omega.{arith}
 use borrow.Author.Needs.{needs}
 use Rattle.model.specs.DelayBound.{boundTick, delayBound}

@@ -1,10 +1,9 @@
 -- The difference is made at 64 bits and fits 32.
-use mathlib.Core.Path.{_≡_, ap, _∙_}
+use mathlib.Core.Path.{ap, _∙_}
 use native.Mathlib.Omega.{arith}
 use lib.IntN.{pos}
 use borrow.Author.Needs.{needs}
 use Rattle.model.specs.DelayBound as delay
-use Rattle.model.specs.DelayBound.{boundTick}
 use Rattle.margins.proofs.SignLaws.{made-fits, cast-fits, cast-read}
 use Rattle.margins.proofs.margin.Statement.{statement}
 use Rattle.margins.proofs.margin.Tie as tie

@@ -12,7 +12,7 @@ use Rattle.row_soundness.specs.declared.limits.Limits.{Limits}
 use Rattle.row_soundness.specs.Limits.{Made}
 use Rattle.row_soundness.proofs.LimitLaws.{made}
 use Rattle.margins.specs.Margins.{MarginFits}
-use Rattle.admission.specs.Decision.{arrivalWith, decisionOf}
+use Rattle.admission.specs.Decision.{arrivalWith}
 use Rattle.admission.specs.Answers.{Decides}
 use Rattle.admission.proofs.PipelineLaws.{few, arrival-tried, live-tried, arrival-is, others-are}
 use Rattle.admission.proofs.FitLaws.{margin-fits}

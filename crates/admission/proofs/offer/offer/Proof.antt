@@ -1,7 +1,7 @@
 -- Question by question: what is left of each test is the test of the next.
-use mathlib.Core.Path.{_≡_, refl, sym, ap, subst, _∙_}
+use mathlib.Core.Path.{_≡_, sym, ap, subst, _∙_}
 use mathlib.Core.Bool.{Bool, true, false, not}
-use Prim.Native.Nat.{ℕ, _≤_, _<_}
+use Prim.Native.Nat.{_≤_}
 use native.Mathlib.Omega.{arith}
 use lib.ListN.{length}
 use lib.Dec.{leb, ltb}
@@ -11,7 +11,6 @@ use Rattle.model.specs.Limits.{maxLive, maxDueIn, lastTick}
 use Rattle.model.specs.Admission.{dueOf}
 use Rattle.image.specs.Pipeline.{listed}
 use Rattle.offers.proofs.Questions.{fitting}
-use Rattle.admission.specs.declared.offer.Offered.{Offered}
 use Rattle.admission.specs.Answers.{Offers}
 use Rattle.admission.proofs.PipelineLaws.{live-is}
 use Rattle.admission.proofs.OfferLaws.{Block-is, costs-no, due-in-no, due-tick-no, tickets-no, room-no, all-yes}
