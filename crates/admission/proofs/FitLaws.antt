@@ -1,76 +1,27 @@
--- Bound ticks and margins of the orders that are tried fit 32 bits: a sound live order is on time, costs are at most 6,000, and the rest is their sum.
-use mathlib.Core.Path.{_≡_}
-use mathlib.Core.Logic.{inl, inr}
-use mathlib.Core.List.{List, [], _∷_}
-use Prim.Native.Nat.{ℕ, zero, suc, _-_, _*_, _≤_, _<_}
-use native.Mathlib.Omega.{arith}
-use lib.ListN.{getD, take}
+-- Bound ticks and margins of the orders that are tried fit 32 bits.
+use Prim.Native.Nat.{ℕ}
 use mir.Syntax.{w32}
 use mir.Val.{SFits}
 use Rattle.model.specs.declared.Block.{Block}
 use Rattle.model.specs.declared.Order.{Order}
-use Rattle.model.specs.Limits.{maxCost}
-use Rattle.model.specs.Lists.{at, total, largest}
 use Rattle.model.specs.State.{State}
-use Rattle.model.specs.DelayBound.{delayBound, boundTick, margin}
+use Rattle.model.specs.DelayBound.{boundTick, margin}
 use Rattle.model.specs.Admission.{arrival, joinedBy}
-use Rattle.schedule.specs.Valid.{_∈_, cost}
-use Rattle.schedule.proofs.Laws.{leb-cases}
-use Rattle.roundtrip.specs.SoundFacts.{maximum, SoundState}
+use Rattle.schedule.specs.Valid.{_∈_}
+use Rattle.roundtrip.specs.SoundFacts.{SoundState}
 use Rattle.offers.specs.Considered.{Fitting}
-use Rattle.offers.proofs.Accept.{due-bounds, maxima-joined, maxima-own}
+use Rattle.offers.proofs.Bounds.{arrival-near, joined-near}
 use Rattle.margins.specs.Margins.{MarginFits}
 use Rattle.margins.proofs.SignLaws.{difference-fits}
-
-total-most : (l : List ℕ) (k : ℕ) → ((i : ℕ) → getD l i 0 ≤ maxCost) → total (take k l) ≤ maxCost * k
-unfolding total
-total-most l zero h = omega arith
-total-most [] (suc k) h = omega arith
-total-most (x ∷ l) (suc k) h = omega (arith, h 0, total-most l k (λ i. h (suc i)))
-
-largest-most : (l : List ℕ) → ((i : ℕ) → getD l i 0 ≤ maxCost) → largest l ≤ maxCost
-unfolding largest
-largest-most [] h = omega arith
-largest-most (x ∷ l) h = omega (arith, h 0, largest-most l (λ i. h (suc i)))
 
 -- A margin that can be had fits.
 pub margin-fits : (n : ℕ) (o : Order) → MarginFits n o → SFits w32 (margin n o)
 unfolding margin
 margin-fits n o f = difference-fits (o .due) (boundTick n o) (f .above) (f .below)
 
--- A figure that is in range at stations 1 to n and 0 beyond.
-anywhere : (n : ℕ) (f : ℕ → ℕ) → ((k : ℕ) → 1 ≤ k → k ≤ n → f k ≤ maxCost) → ((k : ℕ) → n < k → f k ≡ 0) → (i : ℕ) → f (suc i) ≤ maxCost
-anywhere n f in-use beyond i = elim (leb-cases (suc i) n) [ inl t ↦ in-use (suc i) (omega arith) (t .1) | inr t ↦ omega (arith, beyond (suc i) (t .1)) ]
-
 module _ (s : State) (b : Block) (g : SoundState s) (f : Fitting s b) where
-  costs-most : (i : ℕ) → at 0 (b .costs) (suc i) ≤ maxCost
-  costs-most = anywhere (s .n) (λ k. at 0 (b .costs) k) (f .cost-high) (f .cost-beyond)
-
-  pub top-most : largest (b .costs) ≤ maxCost
-  top-most = largest-most (b .costs) costs-most
-
-  live-most : (o : Order) → o ∈ s .orders → (i : ℕ) → cost o (suc i) ≤ maxCost
-  live-most o m = anywhere (s .n) (cost o) (g .orders o m .cost-high) (g .orders o m .cost-beyond)
-
-  pub arrival-fits : arrival s b .sum < 2162688 → MarginFits (s .n) (arrival s b)
-  unfolding boundTick delayBound arrival
-  arrival-fits small =
-      let rows = total-most (arrival s b .maxima) (s .n - 1) (λ i. maxima-own s b (suc i) maxCost (costs-most i) (λ o m. live-most o m i)) in
-      let due = due-bounds (s .clock) b (f .due-in) in
-      record {
-        tick = omega (arith, small, rows, g .clock, g .n-high);
-        above = omega (arith, due .1);
-        below = omega (arith, small, rows, due .0, g .n-high);
-      }
+  pub arrival-fits : MarginFits (s .n) (arrival s b)
+  arrival-fits = let h = arrival-near s b g f in record { tick = h .0; above = h .1; below = h .2 }
 
   pub joined-fits : (o : Order) → o ∈ s .orders → MarginFits (s .n) (joinedBy b o)
-  unfolding boundTick delayBound joinedBy
-  joined-fits o m =
-      let r = g .orders o m in
-      let own-most = anywhere (s .n) (maximum o) (r .maximum-high) (r .maximum-beyond) in
-      let rows = total-most (joinedBy b o .maxima) (s .n - 1) (λ i. maxima-joined s b (suc i) maxCost o (costs-most i) (own-most i)) in
-      record {
-        tick = omega (arith, top-most, rows, r .on-time, r .due-last, g .n-high);
-        above = omega (arith, r .due-within);
-        below = omega (arith, top-most, rows, r .on-time, g .n-high);
-      }
+  joined-fits o m = let h = joined-near s b g f o m in record { tick = h .0; above = h .1; below = h .2 }

@@ -30,10 +30,9 @@ module _ {p : Pipeline} (ok : SoundPipeline p) where
   few = omega (arith, live-is, ok .sound .facts .live)
 
   module _ {b : Block} (f : Fitting (listed p) b) {n : ℕ} (n-is : n ≡ p .n) where
-    pub arrival-tried : {a : Order} → a ≡ arrival (listed p) b → a .sum < 2162688 → MarginFits n a
+    pub arrival-tried : {a : Order} → a ≡ arrival (listed p) b → MarginFits n a
     unfolding listed
-    arrival-tried e small =
-        rw (n-is, e) (arrival-fits (listed p) b (ok .sound .facts) f (subst (λ (o : Order). o .sum < 2162688) e small))
+    arrival-tried e = rw (n-is, e) (arrival-fits (listed p) b (ok .sound .facts) f)
 
     pub live-tried : {live : ℕ} → live ≡ p .live → (o : Order) → o ∈ take live (p .orders) → Tryable n b o
     unfolding listed

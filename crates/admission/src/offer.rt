@@ -4,7 +4,7 @@ ghost use mathlib.Core.List.{_++_};
 ghost use lib.ListN.{drop};
 ghost use Prim.Native.Nat.{_≤_};
 ghost use Rattle.model.specs.Limits.{lastTick};
-ghost use Rattle.model.specs.Admission.{dueOf, blockQuestions, counterQuestions};
+ghost use Rattle.model.specs.Admission.{dueOf, blockQuestions, stateQuestions};
 ghost use Rattle.image.specs.Pipeline.{listed, unused};
 ghost use Rattle.offers.specs.Considered.{Fitting};
 ghost use Rattle.row_soundness.specs.Limits.{Made};
@@ -110,7 +110,7 @@ fn declined(decision: Decision) -> Offered
 fn answered(p: Pipeline, b: Block) -> Offered
     requires { ⌜ SoundPipeline p ⌝ }
     requires { ⌜ Fitting (listed p) b ⌝ }
-    ensures { λ r. ⌜ Offers (drop 3 (counterQuestions (listed p) b)) (listed p) b r ⌝ }
+    ensures { λ r. ⌜ Offers (drop 3 (stateQuestions (listed p) b)) (listed p) b r ⌝ }
 {
     let l = limits_of(wide32(p.n));
     let orders = p.orders;
@@ -127,7 +127,7 @@ fn answered(p: Pipeline, b: Block) -> Offered
 // the promise.
 pub fn offer(p: Pipeline, b: Block) -> Offered
     requires { ⌜ SoundPipeline p ⌝ }
-    ensures { λ r. ⌜ Offers (blockQuestions (listed p .n) b ++ counterQuestions (listed p) b) (listed p) b r ⌝ }
+    ensures { λ r. ⌜ Offers (blockQuestions (listed p .n) b ++ stateQuestions (listed p) b) (listed p) b r ⌝ }
 {
     if !order_block::fits(wide32(p.n), b) {
         return declined(Decision::Costs);

@@ -16,7 +16,7 @@ use Rattle.model.specs.Layout.{imageSize, blockSize, replySize}
 use Rattle.model.specs.Image.{liveCount, decode, encode}
 use Rattle.model.specs.Soundness.{liveCountInRange, sound}
 use Rattle.model.specs.Questions.{firstNo, Answer, replyBytes}
-use Rattle.model.specs.Admission.{blockOf, arrival, joinedBy, joinedLive, accept, blockLengthQuestion, blockQuestions, counterQuestions, orderQuestions}
+use Rattle.model.specs.Admission.{blockOf, arrival, joinedBy, joinedLive, accept, blockLengthQuestion, blockQuestions, stateQuestions, orderQuestions}
 use Rattle.model.specs.Calls.{replyQuestion, lengthQuestion, imageQuestions, offerNumber, offerCall, quoteCall, result}
 use Rattle.image.specs.declared.Pipeline.{Pipeline}
 use Rattle.image.specs.Pipeline.{padded, listed, Readable}
@@ -71,7 +71,7 @@ module _ (image : List ℕ) (bytes : Below byteLimit image) (is-sound : sound im
       }
 
 -- The answer to an offer, about the state and the order that the bytes say.
-pub about : {t s : State} {b c : Block} (o : Offered) → t ≡ s → c ≡ b → Offers (blockQuestions (t .n) c ++ counterQuestions t c) t c o → Offers (blockQuestions (s .n) b ++ counterQuestions s b) s b o
+pub about : {t s : State} {b c : Block} (o : Offered) → t ≡ s → c ≡ b → Offers (blockQuestions (t .n) c ++ stateQuestions t c) t c o → Offers (blockQuestions (s .n) b ++ stateQuestions s b) s b o
 about o e f r = rw (← e, ← f) r
 
 -- An accepted state has at most 32 live orders.
@@ -81,7 +81,7 @@ room-left {s} {b} f e =
     omega (arith, ap (λ (q : Pipeline). q .live) e, length-append (map (joinedBy b) (s .orders)) (arrival s b ∷ []), length-map (s .orders) (joinedBy b), f .room)
 
 module _ (image block reply : List ℕ) (h : Heard image block reply) where
-  number-is : firstNo (blockQuestions (decode image .n) (blockOf block) ++ counterQuestions (decode image) (blockOf block)) ≡ offerNumber image block reply
+  number-is : firstNo (blockQuestions (decode image .n) (blockOf block) ++ stateQuestions (decode image) (blockOf block)) ≡ offerNumber image block reply
   unfolding offerNumber firstNo replyQuestion lengthQuestion imageQuestions orderQuestions blockLengthQuestion
   number-is =
       rw (
@@ -92,7 +92,7 @@ module _ (image block reply : List ℕ) (h : Heard image block reply) where
         eq-eqb (length block) blockSize (h .block-whole),
       )
 
-  module _ (d : Decision) (r : Decides (blockQuestions (decode image .n) (blockOf block) ++ counterQuestions (decode image) (blockOf block)) (decode image) (blockOf block) d) where
+  module _ (d : Decision) (r : Decides (blockQuestions (decode image .n) (blockOf block) ++ stateQuestions (decode image) (blockOf block)) (decode image) (blockOf block) d) where
     is : numberOf d ≡ offerNumber image block reply
     is = r .number-is ∙ number-is
 

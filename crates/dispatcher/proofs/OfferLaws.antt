@@ -13,7 +13,7 @@ use Rattle.model.specs.Layout.{imageSize, blockSize, replySize}
 use Rattle.model.specs.Image.{marked, decode}
 use Rattle.model.specs.Soundness.{sound}
 use Rattle.model.specs.Questions.{Question, _else_, firstNo, replyBytes, zeros}
-use Rattle.model.specs.Admission.{blockOf, blockLengthQuestion, blockQuestions, counterQuestions, orderQuestions, offerAnswer, quoteAnswer}
+use Rattle.model.specs.Admission.{blockOf, blockLengthQuestion, blockQuestions, stateQuestions, orderQuestions, offerAnswer, quoteAnswer}
 use Rattle.model.specs.Calls.{replyQuestion, lengthQuestion, imageQuestions, offerNumber, offerCall, quoteCall, result}
 use Rattle.lists.proofs.Tests.{and-both}
 use Rattle.offers.proofs.Questions.{answer, gives-other, first-no}
@@ -100,7 +100,7 @@ module _ (image block reply : List ℕ) where
   module _ (number : ℕ) (is : number ≡ firstNo (replyQuestion reply ∷ imageQuestions image ++ (blockLengthQuestion block ∷ []))) (some : number ≡ 0 → ⊥) where
     number-is : number ≡ offerNumber image block reply
     unfolding five offerNumber imageQuestions orderQuestions
-    number-is = decides five (blockQuestions (decode image .n) (blockOf block) ++ counterQuestions (decode image) (blockOf block)) number is some
+    number-is = decides five (blockQuestions (decode image .n) (blockOf block) ++ stateQuestions (decode image) (blockOf block)) number is some
 
     most : number ≤ 5
     unfolding replyQuestion imageQuestions lengthQuestion blockLengthQuestion

@@ -1,17 +1,12 @@
 // What a member adds to an interference set (document 01: company): "the largest station cost of each member, added up", and
 // "the largest cost any member has" at each station.
 ghost use mathlib.Core.Path.{_≡_};
-ghost use Prim.Native.Nat.{_+_, _<_, max};
+ghost use Prim.Native.Nat.{_+_, _<_};
 ghost use Rattle.model.specs.Lists as lists;
 ghost use Rattle.model.specs.Admission.{joinedBy};
 use model::Block;
 use model::Order;
-
-fn larger(a: u16, b: u16) -> u16
-    ensures { λ r. ⌜ r ≡ max a b ⌝ }
-{
-    if a < b { b } else { a }
-}
+use row_soundness::larger;
 
 // The larger of two rows' entries, place by place. Neither the first row alone nor the smaller entries meet the promise.
 pub fn larger_row(a: [u16; 8], b: [u16; 8]) -> [u16; 8]

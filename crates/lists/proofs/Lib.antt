@@ -4,3 +4,4 @@ pub mod Fills
 pub mod Tests
 pub mod Maxima
 pub mod Overlays
+pub mod Signs

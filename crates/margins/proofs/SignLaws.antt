@@ -1,16 +1,17 @@
 -- Signed numbers by their sign: what is left is about natural numbers. A signed value in a local is `toZ w (ofZ w z)`, its bits read back.
 use mathlib.Core.Path.{_≡_, refl, sym, ap, _∙_, subst}
-use mathlib.Core.Bool.{Bool, true, false, cond, true≢false}
-use Prim.Native.Nat.{ℕ, zero, suc, _+_, _-_, _≤_, _<_}
+use mathlib.Core.Bool.{Bool, true, false, true≢false}
+use Prim.Native.Nat.{ℕ, suc, _+_, _-_, _≤_, _<_}
 use native.Mathlib.Omega.{arith}
 use lib.IntN.{ℤ, pos, negsuc, natAbs, _+ℤ_, _-ℤ_}
-use lib.Signed.{mag, ltZ, nonNeg}
-use lib.Dec.{T, ltb}
+use lib.Signed.{ltZ, nonNeg}
+use lib.Dec.{T}
 use mir.Syntax.{Width, w32, w64}
 use mir.Val.{Fits, SFits, toZ, ofZ}
 use mir.Facts.{toZ-ofZ, sfits-widen}
-use borrow.Author.Tests.{le-ltb, ltb-true, ltb-false}
+use borrow.Author.Tests.{le-ltb, ltb-true}
 use Rattle.model.specs.Bytes.{bits32}
+use Rattle.lists.proofs.Signs.{near}
 
 abbrev pub kept : Width → ℤ → ℤ
 kept w z = toZ w (ofZ w z)
@@ -21,19 +22,8 @@ order-read {a} {b} fa fb e = sym (ap (λ (z : ℤ). ltZ z b) (toZ-ofZ fa)) ∙ (
 
 -- The difference of two ticks that lie near each other, made at 64 bits and cast to 32.
 module _ (a b : ℕ) (above : a < b + 2147483648) (below : b ≤ a + 2147483648) where
-  near : mag (pos a -ℤ pos b) < 2147483648
-  near = go b refl
-    where
-      by-test : (c : ℕ) → suc c ≡ b → (t : Bool) → ltb a (suc c) ≡ t → mag (cond t (negsuc (suc c - suc a)) (pos (a - suc c))) < 2147483648
-      by-test c q true e = omega (arith, q, above, below, ltb-true a (suc c) e)
-      by-test c q false e = omega (arith, q, above, below, ltb-false a (suc c) e)
-
-      go : (c : ℕ) → c ≡ b → mag (pos a -ℤ pos c) < 2147483648
-      go zero q = omega (arith, q, above)
-      go (suc c) q = by-test c q (ltb a (suc c)) refl
-
   pub difference-fits : SFits w32 (pos a -ℤ pos b)
-  difference-fits = record { sfits = near }
+  difference-fits = record { sfits = near a b above below }
 
   module _ (x y : ℤ) (x-is : x ≡ pos a) (y-is : y ≡ pos b) (short : a < 4294967296) (short′ : b < 4294967296) where
     tick-read : (z : ℤ) (n : ℕ) → z ≡ pos n → n < 4294967296 → kept w64 z ≡ pos n

@@ -86,8 +86,8 @@ blockQuestions n b =
     ∷ (leb (b .«due_in») maxDueIn else 7)
     ∷ []
 
-unfoldable pub counterQuestions : State → Block → List Question
-counterQuestions s b =
+unfoldable pub stateQuestions : State → Block → List Question
+stateQuestions s b =
     (leb (dueOf (s .clock) b) lastTick else 8)
     ∷ (leb 1 (s .next) else 9)
     ∷ (ltb (length (s .orders)) maxLive else 10)
@@ -96,7 +96,7 @@ counterQuestions s b =
     ∷ []
 
 unfoldable pub orderQuestions : State → List ℕ → List Question
-orderQuestions s bytes = let b = blockOf bytes in blockLengthQuestion bytes ∷ blockQuestions (s .n) b ++ counterQuestions s b
+orderQuestions s bytes = let b = blockOf bytes in blockLengthQuestion bytes ∷ blockQuestions (s .n) b ++ stateQuestions s b
 
 -- What offer gives with its number: "the ticket, acceptance tick + delay sum, and the smallest margin"; 11 and 12 "give that same smallest margin".
 unfoldable pub offerAnswer : ℕ → State → Block → Answer

@@ -17,7 +17,7 @@ use Rattle.model.specs.Layout.{imageSize, replySize}
 use Rattle.model.specs.Image.{marked, serviceOf, serviceBytes, orderOf, orderBytes, decode, encode}
 use Rattle.model.specs.Soundness.{stationCountInRange, liveCountInRange, clockInRange, zeroBytes, zeroBytesZero, unusedRecordsZero, rising, ticketsInOrder, acceptedByNow, dueInRange, stationInUse, costsInRange, maximaInRange, sumInRange, zeroBeyond, recordZeroBeyond, isIdle, fieldsBeyondZero, serves, servicesInOrder, clauses, sound}
 use Rattle.model.specs.Questions.{firstNo, Answer, replyBytes, zeros}
-use Rattle.model.specs.Admission.{blockOf, dueOf, arrival, joinedBy, joinedLive, accept, smallest, smallestMargin, blockLengthQuestion, blockQuestions, counterQuestions, orderQuestions, offerAnswer, quoteAnswer}
+use Rattle.model.specs.Admission.{blockOf, dueOf, arrival, joinedBy, joinedLive, accept, smallest, smallestMargin, blockLengthQuestion, blockQuestions, stateQuestions, orderQuestions, offerAnswer, quoteAnswer}
 use Rattle.model.specs.Calls.{Result, result, replyQuestion, lengthQuestion, imageQuestions, openNumber, openCall, offerNumber, offerCall, quoteCall, advanceNumber, advanceAnswer, advanceCall, Call, opening, quoting, offering, advancing, perform}
 use Rattle.model.specs.History.{Entry, begun, isNone, live, liveOrders, entryDue, members, entryBound, entering, joins, acceptIn, entryView, startsIn, tickIn, leaves, leaveIn, advanceIn, feed}
 use Rattle.model.specs.StateOf.{recordOf, stateOf}
@@ -82,7 +82,7 @@ lent size = replicate size 238
 
 -- Whether the rows hold, in turn, from a run on. The long line names all that the calls compute with, so that a proof unfolds `holds` alone.
 unfoldable pub holdsFrom : Run → List Row → Bool
-unfolding overwritten mayChange outTick gave opened onward total largest larger concat all any has same only numbered allStations upward eightBytes eightHalves fresh precedes better first entryOf startAt startEach oneLess stationAfter vacate ticketOut view moveTo starts tick leave advance advanceOut sumOf maximaOf delayBound boundTick onTime margin marked serviceOf serviceBytes orderOf orderBytes decode encode stationCountInRange liveCountInRange clockInRange zeroBytes zeroBytesZero unusedRecordsZero rising ticketsInOrder acceptedByNow dueInRange stationInUse costsInRange maximaInRange sumInRange zeroBeyond recordZeroBeyond isIdle fieldsBeyondZero serves servicesInOrder clauses sound firstNo replyBytes blockOf dueOf arrival joinedBy joinedLive accept smallest smallestMargin blockLengthQuestion blockQuestions counterQuestions orderQuestions offerAnswer quoteAnswer result replyQuestion lengthQuestion imageQuestions openNumber openCall offerNumber offerCall quoteCall advanceNumber advanceAnswer advanceCall perform begun isNone live liveOrders entryDue members entryBound entering joins acceptIn entryView startsIn tickIn leaves leaveIn advanceIn feed recordOf stateOf
+unfolding overwritten mayChange outTick gave opened onward total largest larger concat all any has same only numbered allStations upward eightBytes eightHalves fresh precedes better first entryOf startAt startEach oneLess stationAfter vacate ticketOut view moveTo starts tick leave advance advanceOut sumOf maximaOf delayBound boundTick onTime margin marked serviceOf serviceBytes orderOf orderBytes decode encode stationCountInRange liveCountInRange clockInRange zeroBytes zeroBytesZero unusedRecordsZero rising ticketsInOrder acceptedByNow dueInRange stationInUse costsInRange maximaInRange sumInRange zeroBeyond recordZeroBeyond isIdle fieldsBeyondZero serves servicesInOrder clauses sound firstNo replyBytes blockOf dueOf arrival joinedBy joinedLive accept smallest smallestMargin blockLengthQuestion blockQuestions stateQuestions orderQuestions offerAnswer quoteAnswer result replyQuestion lengthQuestion imageQuestions openNumber openCall offerNumber offerCall quoteCall advanceNumber advanceAnswer advanceCall perform begun isNone live liveOrders entryDue members entryBound entering joins acceptIn entryView startsIn tickIn leaves leaveIn advanceIn feed recordOf stateOf
 holdsFrom run [] = true
 holdsFrom run (opens n ∷ rows) =
     let r = perform (opening n) (run .image) (lent replySize) in

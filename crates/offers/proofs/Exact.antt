@@ -1,26 +1,35 @@
 -- What an offer returns and gives: the number by its questions, whose answers are facts; the tick and the margin from the reply's bytes.
-use mathlib.Core.Path.{_≡_, refl}
-use mathlib.Core.Logic.{inl, inr}
-use mathlib.Core.Bool.{Bool}
-use mathlib.Core.List.{List}
-use Prim.Native.Nat.{ℕ}
+use mathlib.Core.Path.{_≡_, refl, ap, _∙_}
+use mathlib.Core.Logic.{_⊎_, inl, inr}
+use mathlib.Core.Bool.{Bool, true, not, _||_}
+use mathlib.Core.List.{List, List·Memᴰ·cases-cons, Memᴰ·of-map}
+use Prim.Native.Nat.{ℕ, _<_}
+use lib.IntN.{pos, _-ℤ_}
+use lib.Signed.{mag, ltZ}
 use Rattle.model.specs.declared.Block.{Block}
+use Rattle.model.specs.declared.Order.{Order}
 use Rattle.model.specs.Lists.{all, part}
 use Rattle.model.specs.Bytes.{fourBytes, bits32}
 use Rattle.model.specs.State.{State}
-use Rattle.model.specs.DelayBound.{boundTick, onTime}
+use Rattle.model.specs.DelayBound.{boundTick, onTime, margin}
 use Rattle.model.specs.Layout.{replyTickAt, replyMarginAt}
 use Rattle.model.specs.Image.{decode}
 use Rattle.model.specs.Questions.{replyBytes}
-use Rattle.model.specs.Admission.{blockOf, arrival, joinedLive, smallestMargin, offerAnswer}
+use Rattle.model.specs.Admission.{blockOf, arrival, joinedBy, joinedLive, smallestMargin, offerAnswer}
 use Rattle.model.specs.Calls.{offerNumber, offerCall, result}
-use Rattle.offers.specs.Exact.{lastTickOf, Exact}
-use Rattle.offers.proofs.Questions.{Decided, both-pass, first-fails, second-fails, number-is}
+use Rattle.lists.proofs.Signs.{near}
+use Rattle.roundtrip.specs.InRange.{byteLimit, Below}
+use Rattle.roundtrip.proofs.Sound.{sound-gives}
+use Rattle.offers.specs.Considered.{Considered}
+use Rattle.offers.specs.Exact.{boundTickOf, _⇔_, Exact}
+use Rattle.offers.proofs.Questions.{Decided, both-pass, first-fails, second-fails, last, number-is, considered}
 use Rattle.offers.proofs.Times.{time-says, late-says, live-say, one-late}
+use Rattle.offers.proofs.Signs.{margin-sign, sign-smallest}
 use Rattle.offers.proofs.Margins.{smallest-margin}
+use Rattle.offers.proofs.Bounds.{Near, arrival-near, joined-near}
 
 module _ (image block reply : List ℕ) where
-  tick-given : offerNumber image block reply ≡ 0 → part (offerCall image block reply .reply) replyTickAt 4 ≡ fourBytes (lastTickOf (decode image .n) (arrival (decode image) (blockOf block)))
+  tick-given : offerNumber image block reply ≡ 0 → part (offerCall image block reply .reply) replyTickAt 4 ≡ fourBytes (boundTickOf (decode image .n) (arrival (decode image) (blockOf block)))
   unfolding offerCall result replyBytes offerAnswer boundTick
   tick-given e = rw e
 
@@ -30,9 +39,29 @@ module _ (image block reply : List ℕ) where
   margin-given (inr (inl e)) = rw e
   margin-given (inr (inr e)) = rw e
 
+smallest-sign : (s : State) (b : Block) → ltZ (smallestMargin s b) (pos 0) ≡ (not (onTime (s .n) (arrival s b)) || not (all (onTime (s .n)) (joinedLive s b)))
+unfolding smallestMargin
+smallest-sign s b =
+    sign-smallest (s .n) (margin (s .n) (arrival s b)) (joinedLive s b)
+    ∙ ap (λ (t : Bool). t || not (all (onTime (s .n)) (joinedLive s b))) (margin-sign (s .n) (arrival s b))
+
+-- The order that has the smallest margin is the arrival or a live order, and both lie near their due ticks.
+in-range : (image block reply : List ℕ) → Below byteLimit image → Considered image block reply → mag (smallestMargin (decode image) (blockOf block)) < 2147483648
+unfolding boundTick joinedLive
+in-range image block reply bytes c =
+    let s = decode image in
+    let b = blockOf block in
+    let g = sound-gives image bytes (c .image-sound) .facts in
+    let m = smallest-margin s b in
+    let near-due : (o : Order) → Near s b g (c .fitting) o → mag (pos (o .due) -ℤ pos (boundTickOf (s .n) o)) < 2147483648 = λ o h. near (o .due) (boundTick (s .n) o) (h .1) (h .2) in
+    rw (m .attained)
+    (elim (List·Memᴰ·cases-cons (m .among)) [
+      | inl e ↦ rw e (near-due (arrival s b) (arrival-near s b g (c .fitting)))
+      | inr q ↦ let w = Memᴰ·of-map (joinedBy b) (s .orders) q in rw (← w .2) (near-due (joinedBy b (w .0)) (joined-near s b g (c .fitting) (w .0) (w .1)))
+    ])
+
 pub exact : Exact
 exact image block reply =
-    let asked = number-is image block reply in
     record {
       done =
           record {
@@ -54,9 +83,20 @@ exact image block reply =
             if = λ t. asked 12 (inr (inr refl)) .if (t .0, second-fails own live .if (time-says (s .n) (arrival s b) .passes (t .1), one-late s b .if (t .2, t .3, t .4)));
           };
       tick = tick-given image block reply;
-      margin = λ decided. (smallestMargin s b, smallest-margin s b, margin-given image block reply decided);
+      margin = λ decided.
+          record {
+            given = smallestMargin s b;
+            smallest = smallest-margin s b;
+            written = margin-given image block reply decided;
+            signed32 = λ bytes. in-range image block reply bytes (considered image block reply decided);
+            to-spare = λ e. let u = both-pass own live .only (asked 0 (inl refl) .only e .1) in sign ∙ rw (u .0, u .1);
+            too-late = too-late;
+          };
     }
   where
+    asked : (n : ℕ) → Decided n → (offerNumber image block reply ≡ n) ⇔ (Considered image block reply × (last image block reply ≡ n))
+    asked = number-is image block reply
+
     s : State
     s = decode image
 
@@ -68,3 +108,11 @@ exact image block reply =
 
     live : Bool
     live = all (onTime (s .n)) (joinedLive s b)
+
+    -- The smallest margin is below zero where the arrival or a live order is late.
+    sign : ltZ (smallestMargin s b) (pos 0) ≡ (not own || not live)
+    sign = smallest-sign s b
+
+    too-late : (offerNumber image block reply ≡ 11) ⊎ (offerNumber image block reply ≡ 12) → ltZ (smallestMargin s b) (pos 0) ≡ true
+    too-late (inl e) = sign ∙ rw (first-fails own live .only (asked 11 (inr (inl refl)) .only e .1))
+    too-late (inr e) = let u = second-fails own live .only (asked 12 (inr (inr refl)) .only e .1) in sign ∙ rw (u .0, u .1)

@@ -18,7 +18,7 @@ use Rattle.model.specs.DelayBound.{onTime}
 use Rattle.model.specs.Image.{decode}
 use Rattle.model.specs.Soundness.{stationCountInRange, costsInRange, zeroBeyond, sound}
 use Rattle.model.specs.Questions.{Question, _else_, firstNo}
-use Rattle.model.specs.Admission.{blockOf, dueOf, arrival, joinedLive, blockLengthQuestion, blockQuestions, counterQuestions, orderQuestions}
+use Rattle.model.specs.Admission.{blockOf, dueOf, arrival, joinedLive, blockLengthQuestion, blockQuestions, stateQuestions, orderQuestions}
 use Rattle.model.specs.Calls.{replyQuestion, lengthQuestion, imageQuestions, offerNumber}
 use Rattle.lists.proofs.Tests.{and-both}
 use Rattle.roundtrip.proofs.Tests.{Says, leb-says, ltb-says, eqb-says, and-says, within-says, entries-say}
@@ -116,7 +116,7 @@ module _ (image block reply : List ℕ) where
   enough-costs e = rw (eight-costs block) (within-says 1 maxStations (decode image .n) .tells (sound-says image .tells e .n) .1)
 
   ten-say : Says (all answer (take 10 questions)) (Considered image block reply)
-  unfolding all answer questions replyQuestion lengthQuestion imageQuestions blockLengthQuestion blockQuestions counterQuestions orderQuestions
+  unfolding all answer questions replyQuestion lengthQuestion imageQuestions blockLengthQuestion blockQuestions stateQuestions orderQuestions
   ten-say = record { tells = there; passes = back }
     where
       s : State
@@ -158,7 +158,7 @@ module _ (image block reply : List ℕ) where
   last = let s = decode image in let b = blockOf block in lastTwo (onTime (s .n) (arrival s b)) (all (onTime (s .n)) (joinedLive s b))
 
   pub number-is : (n : ℕ) → Decided n → (offerNumber image block reply ≡ n) ⇔ (Considered image block reply × (last ≡ n))
-  unfolding offerNumber questions all gives-other replyQuestion lengthQuestion imageQuestions blockLengthQuestion blockQuestions counterQuestions orderQuestions
+  unfolding offerNumber questions all gives-other replyQuestion lengthQuestion imageQuestions blockLengthQuestion blockQuestions stateQuestions orderQuestions
   number-is n decided =
       let f = first-no n (take 10 questions) (drop 10 questions) (others decided) in
       record { only = λ e. let t = f .only e in (ten-say .tells (t .0), t .1); if = λ t. f .if (ten-say .passes (t .0), t .1) }

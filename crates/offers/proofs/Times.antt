@@ -14,16 +14,16 @@ use Rattle.model.specs.Admission.{joinedBy, joinedLive}
 use Rattle.schedule.specs.Valid.{_∈_}
 use Rattle.schedule.proofs.Laws.{test, all-member}
 use Rattle.roundtrip.proofs.Tests.{Says, leb-says, members-say, all-map}
-use Rattle.offers.specs.Exact.{lastTickOf, InTime, Late, _⇔_}
+use Rattle.offers.specs.Exact.{boundTickOf, InTime, Late, _⇔_}
 
 module _ (n : ℕ) (o : Order) where
   pub time-says : Says (onTime n o) (InTime n o)
   unfolding onTime boundTick
-  time-says = leb-says (lastTickOf n o) (o .due)
+  time-says = leb-says (boundTickOf n o) (o .due)
 
   pub late-says : (onTime n o ≡ false) ⇔ Late n o
   unfolding onTime boundTick
-  late-says = record { only = leb-false (lastTickOf n o) (o .due); if = lt-leb (lastTickOf n o) (o .due) }
+  late-says = record { only = leb-false (boundTickOf n o) (o .due); if = lt-leb (boundTickOf n o) (o .due) }
 
 -- Not all pass where one fails.
 not-all : {A : Type 0} (p : A → Bool) (l : List A) → (all p l ≡ false) ⇔ ((a : A) × (a ∈ l) × (p a ≡ false))

@@ -19,7 +19,7 @@ fn wide(x: u16) -> u32
     x as u32
 }
 
-fn larger(a: u16, b: u16) -> u16
+pub fn larger(a: u16, b: u16) -> u16
     ensures { λ r. ⌜ r ≡ max a b ⌝ }
 {
     if a < b { b } else { a }

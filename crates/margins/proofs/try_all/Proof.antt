@@ -128,7 +128,7 @@ returns-2 c =
     let members = map-upward (λ (o : Order). o .costs) past orders live (omega arith) in
     let margins = ap (map (delay.margin n)) (map-upward joined past orders live (omega arith)) ∙ upward-map (delay.margin n) 0 live (λ k. joined (getD orders k past)) in
     rw (c .gathered2 .ensures)
-    (record { sum-is = inv .3 ∙ rw (e, members); sum-small = omega (arith, inv .1); maxima-is = inv .4 ∙ rw (e, members); least-is = inv .5 ∙ rw (e, margins) })
+    (record { sum-is = inv .3 ∙ rw (e, members); maxima-is = inv .4 ∙ rw (e, members); least-is = inv .5 ∙ rw (e, margins) })
 
 pub try-all-spec : {M : Type 1} → statement M
 try-all-spec =

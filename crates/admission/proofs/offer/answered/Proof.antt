@@ -1,18 +1,15 @@
 -- The live orders are tried, and what comes out decides.
 use mathlib.Core.Path.{_≡_, sym, ap, subst, _∙_}
-use Prim.Native.Nat.{_<_}
 use native.Mathlib.Omega.{arith}
 use mir.Syntax.{w32}
 use mir.Facts.{toZ-ofZ}
 use borrow.Author.Needs.{needs}
-use Rattle.model.specs.declared.Order.{Order}
 use Rattle.model.specs.Admission as counter
 use Rattle.image.specs.Pipeline.{listed}
 use Rattle.row_soundness.specs.declared.limits.Limits.{Limits}
 use Rattle.row_soundness.specs.Limits.{Made}
 use Rattle.row_soundness.proofs.LimitLaws.{made}
 use Rattle.margins.specs.Margins.{MarginFits}
-use Rattle.admission.specs.Decision.{arrivalWith}
 use Rattle.admission.specs.Answers.{Decides}
 use Rattle.admission.proofs.PipelineLaws.{few, arrival-tried, live-tried, arrival-is, others-are}
 use Rattle.admission.proofs.FitLaws.{margin-fits}
@@ -58,13 +55,10 @@ is-arrival c =
     c .arrival .ensures ∙ arrival-is _ _ (n-is (wide .before .before)) (wide .wide .ensures) (tried .try-all .ensures)
 
 fits : (c : tie.After-arrival) → MarginFits (c .before .before .before .before .limits-of .result .n) (c .arrival .result)
-unfolding arrivalWith
 fits c =
-    let tried = c .before in
-    let limits = tried .before .before .before in
+    let limits = c .before .before .before .before in
     let top = limits .before .before in
     arrival-tried (top .pre .0) (top .pre .1) (n-is limits) (is-arrival c)
-    (subst (λ (o : Order). o .sum < 2162688) (sym (c .arrival .ensures)) (tried .try-all .ensures .sum-small))
 
 decide-requires : tie.Need-decide-requires
 decide-requires c κs = (limits-made (c .before .before .before .before .before), fits (c .before))

@@ -1,5 +1,5 @@
 -- Question by question: what is left of each test is the test of the next.
-use mathlib.Core.Path.{_≡_, sym, ap, subst, _∙_}
+use mathlib.Core.Path.{_≡_, sym, subst, _∙_}
 use mathlib.Core.Bool.{Bool, true, false, not}
 use Prim.Native.Nat.{_≤_}
 use native.Mathlib.Omega.{arith}
@@ -9,6 +9,7 @@ use borrow.Author.Tests.{le-leb, lt-leb, lt-ltb, le-ltb}
 use borrow.Author.Needs.{needs}
 use Rattle.model.specs.Limits.{maxLive, maxDueIn, lastTick}
 use Rattle.model.specs.Admission.{dueOf}
+use Rattle.lists.proofs.Signs.{flip}
 use Rattle.image.specs.Pipeline.{listed}
 use Rattle.offers.proofs.Questions.{fitting}
 use Rattle.admission.specs.Answers.{Offers}
@@ -17,14 +18,10 @@ use Rattle.admission.proofs.OfferLaws.{Block-is, costs-no, due-in-no, d
 use Rattle.admission.proofs.offer.offer.Statement.{statement}
 use Rattle.admission.proofs.offer.offer.Tie as tie
 
-not-read : (b t : Bool) → not b ≡ t → b ≡ not t
-not-read true t e = ap not e
-not-read false t e = ap not e
-
 -- Question 6 by its test, either way.
 block-is : (c : tie.After-fits2) (t : Bool) → not (c .fits2 .result) ≡ t → Block-is (listed (c .before .before .args .p)) (c .before .before .args .b) (not t)
 unfolding listed
-block-is c t e = rw (← c .before .wide32 .ensures) (sym (c .fits2 .ensures) ∙ not-read (c .fits2 .result) t e)
+block-is c t e = rw (← c .before .wide32 .ensures) (sym (c .fits2 .ensures) ∙ flip (c .fits2 .result) t e)
 
 block-passes : (c : tie.Else1) → Block-is (listed (c .before .before .before .args .p)) (c .before .before .before .args .b) true
 block-passes c = block-is (c .before) false (c .if1 .left)

@@ -6,7 +6,7 @@ use mir.Facts.{toZ-ofZ}
 use borrow.Author.Needs.{needs}
 use Rattle.model.specs.State.{State}
 use Rattle.model.specs.Image.{decode}
-use Rattle.model.specs.Admission.{blockOf, blockQuestions, counterQuestions}
+use Rattle.model.specs.Admission.{blockOf, blockQuestions, stateQuestions}
 use Rattle.image.specs.Pipeline.{listed}
 use Rattle.offers.specs.Considered.{Fitting}
 use Rattle.admission.specs.declared.decision.Reply.{Reply}
@@ -47,7 +47,7 @@ offer-requires c κs = carried (c .before)
 heard-of : (c : tie.After-offer) → let top = c .before .before .before .before .before .before .before in Heard (top .args .image .now) (top .args .order .now) (top .args .reply .now)
 heard-of c = c .before .before .before .before .before .before .before .pre
 
-says : (c : tie.After-offer) → let top = c .before .before .before .before .before .before .before in let s = decode (top .args .image .now) in let b = blockOf (top .args .order .now) in Offers (blockQuestions (s .n) b ++ counterQuestions s b) s b (c .offer .result)
+says : (c : tie.After-offer) → let top = c .before .before .before .before .before .before .before in let s = decode (top .args .image .now) in let b = blockOf (top .args .order .now) in Offers (blockQuestions (s .n) b ++ stateQuestions s b) s b (c .offer .result)
 says c = about (c .offer .result) (state-is (c .before .before)) (c .before .block-of .ensures) (c .offer .ensures)
 
 fits : (c : tie.After-offer) → numberOf (c .offer .result .decision) ≡ 0 → Fitting (listed (c .before .before .decode .result)) (c .before .block-of .result)
