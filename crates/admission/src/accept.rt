@@ -9,7 +9,7 @@ ghost use Rattle.model.specs.declared.Order as order;
 ghost use Rattle.model.specs.Limits.{maxLive, lastTicket};
 ghost use Rattle.model.specs.Lists as lists;
 ghost use Rattle.model.specs.Admission.{joinedBy};
-ghost use Rattle.model.specs.Admission as counter;
+ghost use Rattle.model.specs.Admission as defined;
 ghost use Rattle.schedule.specs.Valid.{_∈_};
 ghost use Rattle.image.specs.Pipeline.{listed, padded};
 ghost use Rattle.offers.specs.Considered.{Fitting};
@@ -49,8 +49,8 @@ fn ticket_after(ticket: u32) -> u32
 // Neither the arrival's ticket left as the next one nor live orders without the arrival in their sets meet the promise.
 pub fn accept(p: Pipeline, b: Block, a: Order) -> Pipeline
     requires { ⌜ SoundPipeline p ⌝ }
-    requires { ⌜ Fitting (listed p) b × (a ≡ counter.arrival (listed p) b) ⌝ }
-    ensures { λ r. ⌜ r ≡ padded (counter.accept (listed p) b) ⌝ }
+    requires { ⌜ Fitting (listed p) b × (a ≡ defined.arrival (listed p) b) ⌝ }
+    ensures { λ r. ⌜ r ≡ padded (defined.accept (listed p) b) ⌝ }
 {
     let live = wide(p.live);
     let orders = p.orders;

@@ -39,8 +39,8 @@ fn declined(number: u32, margin: i32) -> Reply
     }
 }
 
-// The reply to an offer, with the ticket that is given if it is accepted: 0 for a quote. Neither a ticket given with a
-// decline nor 0 for the margin of 11 meets the promise.
+// The reply to an offer, with the ticket that is given if it is accepted: 0 for a quote. Neither 12 in the place of 11 nor
+// one tick for every order meets the promise.
 pub fn reply_of(decision: Decision, ticket: u32) -> Reply
     ensures { λ r. ⌜ r ≡ replyOf ticket decision ⌝ }
 {

@@ -39,7 +39,7 @@ word-part l a n b h =
     (byte-part l a n b (omega arith), byte-part l a n (b + 1) (omega arith), byte-part l a n (b + 2) (omega arith), byte-part l a n (b + 2 + 1) (omega arith), e1, e2, e3)
 
 -- The first byte, and those after it.
-pub zero-first : (l : List ℕ) (a n : ℕ) → a < length l → all isZero (part l a (suc n)) ≡ (isZero (byte l a) && all isZero (part l (a + 1) n))
+zero-first : (l : List ℕ) (a n : ℕ) → a < length l → all isZero (part l a (suc n)) ≡ (isZero (byte l a) && all isZero (part l (a + 1) n))
 unfolding all
 zero-first l a n h = rw (drop-cons l a 0 h, add-one)
 

@@ -20,18 +20,17 @@ pub at-larger : (xs ys : List ℕ) (k : ℕ) → at 0 (larger xs ys) k ≡ max (
 at-larger xs ys zero = omega arith
 at-larger xs ys (suc i) = getD-larger xs ys i
 
-pub length-larger : (n : ℕ) (xs ys : List ℕ) → length xs ≡ n → length ys ≡ n → length (larger xs ys) ≡ n
+pub length-larger : (xs ys : List ℕ) → length (larger xs ys) ≡ max (length xs) (length ys)
 unfolding larger
-length-larger n [] ys p q = q
-length-larger n (x ∷ xs) [] p q = p
-length-larger zero (x ∷ xs) (y ∷ ys) p q = absurd (let z : ⊥ = omega arith in z)
-length-larger (suc n) (x ∷ xs) (y ∷ ys) p q = omega (arith, length-larger n xs ys (omega arith) (omega arith))
+length-larger [] ys = omega arith
+length-larger (x ∷ xs) [] = omega arith
+length-larger (x ∷ xs) (y ∷ ys) = omega (arith, length-larger xs ys)
 
 -- Rows of one length, place by place.
 pub larger-places : (n : ℕ) (xs ys : List ℕ) → length xs ≡ n → length ys ≡ n → upward 0 n (λ k. max (getD xs k 0) (getD ys k 0)) ≡ larger xs ys
 larger-places n xs ys p q =
     upward-same n (λ k. max (getD xs k 0) (getD ys k 0)) (λ k. getD (larger xs ys) k 0) (λ k h. sym (getD-larger xs ys k))
-    ∙ upward-list 0 (larger xs ys) n (length-larger n xs ys p q)
+    ∙ upward-list 0 (larger xs ys) n (omega (arith, length-larger xs ys, p, q))
 
 larger-comm : (xs ys : List ℕ) → larger xs ys ≡ larger ys xs
 unfolding larger

@@ -104,7 +104,7 @@ module _ {A : Type 0} (test : A → Bool) where
   all-upward n f = rw (upward-more n f) (all-more (upward 0 n f) (f n))
 
   -- One that fails is enough.
-  pub all-at : (d : A) (l : List A) (i : ℕ) → i < length l → all test l ≡ true → test (getD l i d) ≡ true
+  all-at : (d : A) (l : List A) (i : ℕ) → i < length l → all test l ≡ true → test (getD l i d) ≡ true
   unfolding all
   all-at d [] i h e = absurd (let z : ⊥ = omega arith in z)
   all-at d (x ∷ l) zero h e = and-both (test x) (all test l) e .0
@@ -259,3 +259,9 @@ neither false y = refl
 
 pub inside : (low high n : ℕ) {outside : Bool} → (ltb n low || ltb high n) ≡ outside → within low high n ≡ not outside
 inside low high n e = rw (least-not low n, least-not n high) (neither (ltb n low) (ltb high n) ∙ ap not e)
+
+-- The largest entry is at most x where every entry is.
+pub largest-under : (l : List ℕ) (x : ℕ) → ((i : ℕ) → getD l i 0 ≤ x) → largest l ≤ x
+unfolding largest
+largest-under [] x each = omega arith
+largest-under (y ∷ l) x each = omega (arith, each 0, largest-under l x (λ i. each (suc i)))

@@ -2,16 +2,17 @@
 use mathlib.Core.Path.{_≡_, refl, subst}
 use mathlib.Core.Logic.{inl, inr}
 use mathlib.Core.List.{List, [], _∷_, map, List·Memᴰ·head, List·Memᴰ·tail}
-use Prim.Native.Nat.{ℕ, _+_, _≤_, _<_, max}
+use Prim.Native.Nat.{ℕ, _+_, _≤_, _<_}
 use native.Mathlib.Omega.{arith}
 use lib.ListN.{length, length-append, length-map}
 use Rattle.model.specs.declared.Block.{Block}
 use Rattle.model.specs.declared.Order.{Order}
 use Rattle.model.specs.Limits.{maxStations, maxCost, maxDueIn, lastTicket}
-use Rattle.model.specs.Lists.{at, total, larger}
+use Rattle.model.specs.Lists.{at, total}
 use Rattle.model.specs.State.{State}
 use Rattle.model.specs.DelayBound.{sumOf, maximaOf}
 use Rattle.model.specs.Admission.{dueOf, arrival, joinedBy, joinedLive, accept}
+use Rattle.lists.proofs.Maxima.{length-larger}
 use Rattle.schedule.specs.Valid.{_∈_, cost, Valid}
 use Rattle.schedule.specs.Accept.{acceptNext}
 use Rattle.schedule.proofs.Laws.{eqb-cases, at-larger, at-replicate}
@@ -22,12 +23,6 @@ use Rattle.roundtrip.proofs.Sound.{sound-valid}
 use Rattle.roundtrip.proofs.Fits.{sound-fits}
 use Rattle.offers.specs.Considered.{Fitting}
 use Rattle.offers.specs.Exact.{InTime}
-
-length-larger : (xs ys : List ℕ) → length (larger xs ys) ≡ max (length xs) (length ys)
-unfolding larger
-length-larger [] ys = omega arith
-length-larger (x ∷ xs) [] = omega arith
-length-larger (x ∷ xs) (y ∷ ys) = omega (arith, length-larger xs ys)
 
 -- The maxima over the live orders are bounded by what bounds their costs, and no longer than these.
 abbrev liveMaxima : List Order → List ℕ

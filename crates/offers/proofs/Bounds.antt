@@ -12,6 +12,7 @@ use Rattle.model.specs.Lists.{at, total, largest}
 use Rattle.model.specs.State.{State}
 use Rattle.model.specs.DelayBound.{sumOf, delayBound, boundTick}
 use Rattle.model.specs.Admission.{arrival, joinedBy}
+use Rattle.lists.proofs.Tests.{largest-under}
 use Rattle.schedule.specs.Valid.{_∈_, cost}
 use Rattle.schedule.proofs.Laws.{leb-cases}
 use Rattle.roundtrip.specs.SoundFacts.{maximum, SoundState}
@@ -23,11 +24,6 @@ unfolding total
 total-most l zero h = omega arith
 total-most [] (suc k) h = omega arith
 total-most (x ∷ l) (suc k) h = omega (arith, h 0, total-most l k (λ i. h (suc i)))
-
-largest-most : (l : List ℕ) → ((i : ℕ) → getD l i 0 ≤ maxCost) → largest l ≤ maxCost
-unfolding largest
-largest-most [] h = omega arith
-largest-most (x ∷ l) h = omega (arith, h 0, largest-most l (λ i. h (suc i)))
 
 sum-most : (l : List Order) → ((o : Order) → o ∈ l → largest (o .costs) ≤ maxCost) → sumOf (map (λ (o : Order). o .costs) l) ≤ maxCost * length l
 unfolding sumOf total
@@ -43,7 +39,7 @@ module _ (s : State) (b : Block) (g : SoundState s) (f : Fitting s b) where
   costs-most = anywhere (s .n) (λ k. at 0 (b .costs) k) (f .cost-high) (f .cost-beyond)
 
   top-most : largest (b .costs) ≤ maxCost
-  top-most = largest-most (b .costs) costs-most
+  top-most = largest-under (b .costs) maxCost costs-most
 
   live-most : (o : Order) → o ∈ s .orders → (i : ℕ) → cost o (suc i) ≤ maxCost
   live-most o m = anywhere (s .n) (cost o) (g .orders o m .cost-high) (g .orders o m .cost-beyond)
@@ -55,7 +51,7 @@ module _ (s : State) (b : Block) (g : SoundState s) (f : Fitting s b) where
   pub arrival-near : Near (arrival s b)
   unfolding boundTick delayBound arrival sumOf total
   arrival-near =
-      let sums = sum-most (s .orders) (λ o m. largest-most (o .costs) (live-most o m)) in
+      let sums = sum-most (s .orders) (λ o m. largest-under (o .costs) maxCost (live-most o m)) in
       let rows = total-most (arrival s b .maxima) (s .n - 1) (λ i. maxima-own s b (suc i) maxCost (costs-most i) (λ o m. live-most o m i)) in
       let due = due-bounds (s .clock) b (f .due-in) in
       (omega (arith, top-most, sums, f .room, rows, g .clock, g .n-high), omega (arith, due .1), omega (arith, top-most, sums, f .room, rows, due .0, g .n-high))

@@ -1,7 +1,7 @@
 -- What is 0 in the rows of flaws and of ranks, place by place, says what the clauses say.
 use mathlib.Core.Path.{_≡_, refl, sym, ap, _∙_}
 use mathlib.Core.Bool.{Bool, true, false, _&&_}
-use mathlib.Core.List.{List, [], _∷_}
+use mathlib.Core.List.{List}
 use Prim.Native.Nat.{ℕ, zero, suc, _+_, _-_, _≤_, _<_, min}
 use native.Mathlib.Nat.{not-suc-le-zero}
 use native.Mathlib.Omega.{arith}
@@ -15,7 +15,7 @@ use Rattle.model.specs.Lists.{at, all, isZero, total, largest, upward}
 use Rattle.model.specs.DelayBound.{onTime, boundTick, delayBound}
 use Rattle.model.specs.Soundness.{dueInRange, stationInUse, costsInRange, maximaInRange, sumInRange, zeroBeyond, recordZeroBeyond}
 use Rattle.lists.proofs.Fills.{length-upward, getD-upward, upward-same, fill-end}
-use Rattle.lists.proofs.Tests.{either}
+use Rattle.lists.proofs.Tests.{either, largest-under}
 use Rattle.lists.proofs.Overlays.{or-zero, zero-or}
 use Rattle.schedule.proofs.Laws.{at-largest}
 use Rattle.roundtrip.proofs.Tests.{Says, leb-says, eqb-says, and-says, in-words, entries-say}
@@ -26,7 +26,7 @@ use Rattle.row_soundness.proofs.LimitLaws.{first-place}
 use Rattle.record_flaws.specs.Holds.{ticksHold, rowsHold, recordHolds}
 
 -- Two tests of one fact.
-pub same-fact : {a b : Bool} {P : Type 0} → Says a P → Says b P → a ≡ b
+same-fact : {a b : Bool} {P : Type 0} → Says a P → Says b P → a ≡ b
 same-fact {a} {b} {P} p q = either (λ t. t ≡ b) a (λ e. sym (q .passes (p .tells e))) (λ e. either (λ t. false ≡ t) b (λ f. sym e ∙ p .passes (q .tells f)) (λ f. refl))
 
 itself : (b : Bool) → Says b (b ≡ true)
@@ -87,12 +87,6 @@ abbrev pub gathered : List ℕ → List ℕ → List ℕ → List ℕ → List �
 gathered flaws least most costs maxima sum i =
     bitOr (getD flaws i 0)
     (bitOr (bitOr (bitOr (getD least i 0 - getD costs i 0) (getD costs i 0 - getD maxima i 0)) (getD maxima i 0 - getD most i 0)) (getD costs i 0 - sum))
-
--- The largest entry is at most x where every entry is.
-largest-under : (l : List ℕ) (x : ℕ) → ((i : ℕ) → getD l i 0 ≤ x) → largest l ≤ x
-unfolding largest
-largest-under [] x each = omega arith
-largest-under (y ∷ l) x each = omega (arith, each 0, largest-under l x (λ i. each (suc i)))
 
 -- The rows of an order against the limits of n.
 module _ (n : ℕ) (o : Order) (fits : n ≤ 8) (long : length (o .costs) ≡ 8) (high : length (o .maxima) ≡ 8) (small : (i : ℕ) → getD (o .costs) i 0 < 65536) where

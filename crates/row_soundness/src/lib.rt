@@ -1,5 +1,4 @@
-// Document 01, "Sound means", for a row of eight entries, of which the first n are in use. Each loop goes over all eight with the test
-// of n beside the entry's, so that a compiler can take the entries together.
+// Document 01, "Sound means", for a row of eight entries, of which the first n are in use.
 pub mod limits; // limits.rt: what may stand at each place
 
 ghost use mathlib.Core.Path.{_≡_};
@@ -19,6 +18,7 @@ fn wide(x: u16) -> u32
     x as u32
 }
 
+// The larger of two entries.
 pub fn larger(a: u16, b: u16) -> u16
     ensures { λ r. ⌜ r ≡ max a b ⌝ }
 {

@@ -16,7 +16,7 @@ use Rattle.model.specs.Image.{liveCount, decode}
 use Rattle.model.specs.Soundness.{stationCountInRange, liveCountInRange, clauses, sound}
 use Rattle.soundness.specs.declared.Flaw.{Flaw}
 use Rattle.soundness.specs.declared.Flaw.the-variants.{StationCount, LiveCount}
-use Rattle.soundness.specs.Flaw.{named, isNothing, firstOf, firstFlaw, laterClauses, listOf, laterHold, flawOf}
+use Rattle.soundness.specs.Flaw.{SoundIs, named, isNothing, firstOf, firstFlaw, laterClauses, listOf, laterHold, flawOf}
 
 neither-of : (a b : Bool) → (a || b) ≡ false → (a ≡ false) × (b ≡ false)
 neither-of true b e = (e, cc)
@@ -68,6 +68,6 @@ none-first (t ∷ tests) [] h g = absurd (omega arith)
 none-first (true ∷ tests) (name ∷ names) h g = none-first tests names (omega arith) (and-both (not (isNothing name)) (all (λ f. not (isNothing f)) names) g .1)
 none-first (false ∷ tests) (name ∷ names) h g = not-true (isNothing name) (and-both (not (isNothing name)) (all (λ f. not (isNothing f)) names) g .0)
 
-pub sound-is : (image : List ℕ) → isNothing (firstFlaw image) ≡ sound image
+pub sound-is : SoundIs
 unfolding firstFlaw sound clauses all
 sound-is image = none-first (clauses image) named (omega arith) refl

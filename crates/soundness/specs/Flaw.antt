@@ -1,4 +1,5 @@
 -- The clauses of document 01's "Sound means" by name, and the first that fails.
+use mathlib.Core.Path.{_≡_}
 use mathlib.Core.Bool.{Bool, true, false}
 use mathlib.Core.List.{List, [], _∷_}
 use Prim.Native.Nat.{ℕ}
@@ -7,7 +8,7 @@ use Rattle.model.specs.declared.Order.{Order}
 use Rattle.model.specs.Lists.{all}
 use Rattle.model.specs.DelayBound.{onTime}
 use Rattle.model.specs.Image.{decode}
-use Rattle.model.specs.Soundness.{clockInRange, zeroBytesZero, unusedRecordsZero, ticketsInOrder, acceptedByNow, dueInRange, stationInUse, costsInRange, maximaInRange, sumInRange, fieldsBeyondZero, servicesInOrder, clauses}
+use Rattle.model.specs.Soundness.{clockInRange, zeroBytesZero, unusedRecordsZero, ticketsInOrder, acceptedByNow, dueInRange, stationInUse, costsInRange, maximaInRange, sumInRange, fieldsBeyondZero, servicesInOrder, clauses, sound}
 use Rattle.soundness.specs.declared.Flaw.{Flaw}
 use Rattle.soundness.specs.declared.Flaw.the-variants.{Nothing, StationCount, LiveCount, Clock, ZeroBytes, UnusedRecords, Tickets, Acceptance, Due, Station, Costs, Maxima, Sum, OnTime, Beyond, Services}
 use Rattle.soundness.specs.declared.Clauses.{Clauses}
@@ -76,3 +77,7 @@ laterHold c = all (λ clause. clause) (listOf c)
 
 unfoldable pub flawOf : Clauses → Flaw
 flawOf c = firstOf (listOf c) (drop 2 named)
+
+-- An image is sound exactly when no clause is the first that fails: what refuses an image and what explains the refusal cannot differ.
+abbrev pub SoundIs : Type 0
+SoundIs = (image : List ℕ) → isNothing (firstFlaw image) ≡ sound image

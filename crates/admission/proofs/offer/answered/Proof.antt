@@ -4,7 +4,7 @@ use native.Mathlib.Omega.{arith}
 use mir.Syntax.{w32}
 use mir.Facts.{toZ-ofZ}
 use borrow.Author.Needs.{needs}
-use Rattle.model.specs.Admission as counter
+use Rattle.model.specs.Admission as defined
 use Rattle.image.specs.Pipeline.{listed}
 use Rattle.row_soundness.specs.declared.limits.Limits.{Limits}
 use Rattle.row_soundness.specs.Limits.{Made}
@@ -48,7 +48,7 @@ unfolding listed
 arrival-requires c κs = c .before .before .before .before .before .pre .1 .due-tick
 
 -- The arrival is the state's, and its margin fits.
-is-arrival : (c : tie.After-arrival) → let top = c .before .before .before .before .before .before in c .arrival .result ≡ counter.arrival (listed (top .args .p)) (top .args .b)
+is-arrival : (c : tie.After-arrival) → let top = c .before .before .before .before .before .before in c .arrival .result ≡ defined.arrival (listed (top .args .p)) (top .args .b)
 is-arrival c =
     let tried = c .before in
     let wide = tried .before in
