@@ -37,7 +37,7 @@
  * ON TIME
  *
  * The due tick of an order is the tick at which it was accepted plus its due-in. An order is accepted only if it and every live order are then sure to be
- * out by their due ticks, in whatever way they get into each other's way. This is tested by a sum. The company of an order is the order itself, the
+ * out by their due ticks, however they delay each other. This is tested by a sum. The company of an order is the order itself, the
  * orders that were live when it was accepted, and those accepted while it is live, even if they are out by now. The delay sum of an order is
  *
  *     the largest of its station costs, for each order of the company, added up,
