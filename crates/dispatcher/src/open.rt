@@ -1,15 +1,11 @@
 // "Open takes 1, 2, 14"; "open gives zeros and a fresh image (clock 0, next ticket 1)".
 ghost use mathlib.Core.Path.{_≡_};
-ghost use Rattle.model.specs.State as state;
 ghost use Rattle.model.specs.Calls.{openNumber, openCall};
-ghost use Rattle.image.specs.Pipeline.{padded};
 ghost use Rattle.questions.specs.Answer.{numberOf};
 ghost use Rattle.dispatcher.specs.Gives.{Gives};
 use super::reply::put_reply;
-use image::Pipeline;
 use image::layout::IMAGE_SIZE;
 use image::layout::REPLY_SIZE;
-use model::Service;
 use model::limits::MAX_STATIONS;
 use questions::Answer;
 
@@ -28,19 +24,6 @@ fn open_answer(image: &[u8], stations: u32, reply: &[u8]) -> Answer
     Answer::Passed
 }
 
-fn fresh(n: u8) -> Pipeline
-    ensures { λ r. ⌜ r ≡ padded (state.fresh n) ⌝ }
-{
-    Pipeline {
-        n: n,
-        live: 0,
-        clock: 0,
-        next: 1,
-        services: [Service { ticket: 0, left: 0 }; 8],
-        orders: image::unused_orders(),
-    }
-}
-
 // Opens a cabinet of so many stations in the image. Neither a decline that writes into the image nor a reply written
 // beside number 1 meets the promise.
 #[no_mangle]
@@ -52,7 +35,7 @@ pub extern "C" fn dispatcher_open(image: &mut [u8], stations: u32, reply: &mut [
         return number;
     }
     if number == 0 {
-        image_writer::encode(image, fresh((stations % 256) as u8));
+        image_writer::encode_fresh(image, (stations % 256) as u8);
         put_reply(reply, number, 0, 0, 0);
         return number;
     }

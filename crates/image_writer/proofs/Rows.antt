@@ -8,6 +8,7 @@ use lib.Seq.{length-take-le}
 use Rattle.model.specs.Limits.{maxLive}
 use Rattle.model.specs.Lists.{concat}
 use Rattle.model.specs.Bytes.{twoBytes, fourBytes}
+use Rattle.model.specs.State.{fresh}
 use Rattle.model.specs.Layout.{imageSize, mark, version, recordSize}
 use Rattle.model.specs.Image.{serviceBytes, orderBytes, encode}
 use Rattle.lists.specs.Stored.{Stored}
@@ -70,3 +71,11 @@ module _ (p : Pipeline) (room : p .live ≤ maxLive) (long : length (p .orders) 
       (simp length-append (omega (arith, n2, n3)))
       s4)
       (simp length-append (omega (arith, h, n2, n3, length-replicate {A = ℕ} (64 * (32 - p .live)) 0))))
+
+pub after-header : (n : ℕ) → n ≡ imageSize → n - 16 ≡ 2112
+after-header n h = omega arith
+
+-- A fresh pipeline's station entries and records are zeros.
+pub fresh-encoded : {n : ℕ} {l a b : List ℕ} → length l ≡ imageSize → Stored l 0 (mark ++ twoBytes version ++ (n ∷ 0 ∷ 0 ∷ []) ++ fourBytes 0 ++ fourBytes 1) a → Stored a 16 (replicate 2112 0) b → b ≡ encode (fresh n)
+unfolding encode fresh serviceBytes concat
+fresh-encoded h s1 s2 = stored-all (stored-then s1 refl s2) (simp length-append (omega (arith, h, length-replicate {A = ℕ} 2112 0)))

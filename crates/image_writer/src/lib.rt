@@ -9,6 +9,7 @@ ghost use Rattle.model.specs.Bytes.{oneByte, twoBytes, fourBytes};
 ghost use Rattle.model.specs.Layout.{imageSize, servicesAt, serviceSize, recordsAt, recordSize, mark, version};
 ghost use Rattle.model.specs.Image.{serviceBytes, orderBytes};
 ghost use Rattle.model.specs.Image as says;
+ghost use Rattle.model.specs.State.{fresh};
 ghost use Rattle.lists.specs.Stored.{Stored};
 ghost use Rattle.image.specs.Pipeline.{listed};
 use image::Pipeline;
@@ -138,4 +139,14 @@ pub fn encode(image: &mut [u8], p: Pipeline)
     put_services(image, services);
     put_orders(image, orders, live);
     put_zeros(image, RECORDS_AT + RECORD_SIZE * live);
+}
+
+// The image of a fresh pipeline: the header, and zeros. No state has to be carried for it. Neither a clock of 1 nor a first
+// ticket of 0 meets the promise.
+pub fn encode_fresh(image: &mut [u8], n: u8)
+    requires { ⌜ length (now image) ≡ imageSize ⌝ }
+    ensures { λ _. ⌜ now (image .exit) ≡ says.encode (fresh n) ⌝ }
+{
+    put_header(image, n, 0, 0, 1);
+    put_zeros(image, SERVICES_AT);
 }

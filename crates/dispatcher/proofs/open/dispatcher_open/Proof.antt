@@ -29,30 +29,23 @@ same-length-2 c = search needs
 number-is : (c : tie.After-number) → c .number .result ≡ openNumber (c .before .before .before .before .before .before .args .image .now) (c .before .before .before .before .before .before .args .stations) (c .before .before .before .before .before .before .args .reply .now)
 number-is c = c .number .ensures ∙ c .before .open-answer .ensures
 
-empty : (n : ℕ) (p : Pipeline) → p ≡ padded (fresh n) → p .live ≤ 32
-unfolding padded fresh
-empty n p e = omega (arith, ap (λ (q : Pipeline). q .live) e)
-
 returns : tie.Need-returns
 returns c =
     let k = c .before in
     unheard _ _ _ (k .number .result) (number-is k) (c .if1 .taken)
 
-cast-fresh : tie.Need-cast-fresh
-cast-fresh c = search needs
+cast-encode-fresh : tie.Need-cast-encode-fresh
+cast-encode-fresh c = search needs
 
-fresh-requires : tie.Need-fresh-requires
-fresh-requires c κs = search needs
-
-encode-requires : tie.Need-encode-requires
-encode-requires c κs =
-    let k = c .before .before .before .before in
-    (whole _ _ _ (sym (number-is k) ∙ c .before .before .if2 .taken), empty _ (c .fresh .result) (c .fresh .ensures))
+encode-fresh-requires : tie.Need-encode-fresh-requires
+encode-fresh-requires c κs =
+    let k = c .before .before .before in
+    whole _ _ _ (sym (number-is k) ∙ c .before .if2 .taken)
 
 put-reply-requires : tie.Need-put-reply-requires
 put-reply-requires c κs =
-    let k = c .before .before .before .before .before .before .before .before in
-    heard _ _ _ (λ e. c .before .before .before .before .before .before .before .if1 .left (number-is k ∙ e))
+    let k = c .before .before .before .before .before .before .before in
+    heard _ _ _ (λ e. c .before .before .before .before .before .before .if1 .left (number-is k ∙ e))
 
 same-length-3 : tie.Need-same-length-3
 same-length-3 c = search needs
@@ -62,12 +55,12 @@ same-length-4 c = search needs
 
 returns-2 : tie.Need-returns-2
 returns-2 c =
-    let k = c .before .before .before .before .before .before .before .before .before .before .before in
-    let zero = c .before .before .before .before .before .before .before .before .before .if2 .taken in
+    let encode = c .before .before .before .before .before .before in
+    let then = encode .before .before in
+    let k = then .before .before in
     let n = k .before .before .before .before .before .before .args .stations in
-    let low : n % 256 ≡ n = omega (arith, few _ _ _ (sym (number-is k) ∙ zero)) in
-    let image = c .before .before .before .before .before .before .encode .ensures ∙ ap encode (ap listed (c .before .before .before .before .before .before .before .fresh .ensures) ∙ listed-padded (fresh (n % 256)) ∙ ap fresh low) in
-    rw (image, c .before .before .put-reply .ensures) (opened _ n _ (k .number .result) (number-is k) zero)
+    let low : n % 256 ≡ n = omega (arith, few _ _ _ (sym (number-is k) ∙ then .if2 .taken)) in
+    rw (encode .encode-fresh .ensures, low, c .before .before .put-reply .ensures) (opened _ n _ (k .number .result) (number-is k) (then .if2 .taken))
 
 put-reply-requires-2 : tie.Need-put-reply-requires-2
 put-reply-requires-2 c κs =
@@ -94,9 +87,8 @@ dispatcher-open-spec =
     same-length
     same-length-2
     returns
-    cast-fresh
-    fresh-requires
-    encode-requires
+    cast-encode-fresh
+    encode-fresh-requires
     put-reply-requires
     same-length-3
     same-length-4
