@@ -7,7 +7,7 @@ ghost use Rattle.model.specs.Limits.{lastTick};
 ghost use Rattle.model.specs.Admission.{dueOf, blockQuestions, stateQuestions};
 ghost use Rattle.image.specs.Pipeline.{listed, unused};
 ghost use Rattle.offers.specs.Considered.{Fitting};
-ghost use Rattle.row_soundness.specs.Limits.{Made};
+ghost use Rattle.row_limits.specs.Limits.{Made};
 ghost use Rattle.margins.specs.Margins.{MarginFits};
 ghost use Rattle.admission.specs.Decision.{arrivalWith, decisionOf};
 ghost use Rattle.admission.specs.Answers.{SoundPipeline, Offers};
@@ -26,8 +26,8 @@ use model::limits::LAST_TICK;
 use model::limits::MAX_DUE_IN;
 use model::limits::MAX_LIVE;
 use order_block::due_tick;
-use row_soundness::limits::Limits;
-use row_soundness::limits::limits_of;
+use row_limits::Limits;
+use row_limits::limits_of;
 
 // The decision, and beside it the arrival where it was accepted: an enum holds no array.
 pub struct Offered {

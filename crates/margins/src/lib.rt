@@ -11,14 +11,14 @@ ghost use Rattle.model.specs.DelayBound.{boundTick};
 ghost use Rattle.model.specs.DelayBound as delay;
 ghost use Rattle.model.specs.Admission.{smallest};
 ghost use Rattle.schedule.specs.Valid.{_∈_};
-ghost use Rattle.row_soundness.specs.Limits.{Made};
+ghost use Rattle.row_limits.specs.Limits.{Made};
 ghost use Rattle.margins.specs.Margins.{MarginFits, Tryable, Tries};
 use interference::joined_by;
 use interference::larger_row;
 use model::Block;
 use model::Order;
-use row_soundness::limits::Limits;
-use row_soundness::limits::counted_total;
+use row_limits::Limits;
+use row_limits::counted_total;
 
 // Acceptance tick + delay bound (document 01: delay sum). Neither the last station's maximum added nor the sum alone meets
 // the promise.

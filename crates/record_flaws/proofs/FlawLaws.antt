@@ -20,9 +20,9 @@ use Rattle.lists.proofs.Overlays.{or-zero, zero-or}
 use Rattle.schedule.proofs.Laws.{at-largest}
 use Rattle.roundtrip.proofs.Tests.{Says, leb-says, eqb-says, and-says, in-words, entries-say}
 use Rattle.roundtrip.proofs.Clauses.{zero-beyond, costs-say, maxima-say}
-use Rattle.row_soundness.specs.declared.limits.Limits.{Limits}
-use Rattle.row_soundness.specs.Limits.{firstPlaces, Made}
-use Rattle.row_soundness.proofs.LimitLaws.{first-place}
+use Rattle.row_limits.specs.declared.Limits.{Limits}
+use Rattle.row_limits.specs.Limits.{firstPlaces, Made}
+use Rattle.row_limits.proofs.LimitLaws.{first-place}
 use Rattle.record_flaws.specs.Holds.{ticksHold, rowsHold, recordHolds}
 
 -- Two tests of one fact.

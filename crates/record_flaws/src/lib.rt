@@ -6,13 +6,13 @@ ghost use Prim.Native.Nat.{ℕ, _-_, min};
 ghost use Rattle.model.specs.Lists.{all, isZero};
 ghost use Rattle.model.specs.Soundness.{zeroBeyond};
 ghost use Rattle.model.specs.DelayBound.{onTime};
-ghost use Rattle.row_soundness.specs.Limits.{Made};
+ghost use Rattle.row_limits.specs.Limits.{Made};
 ghost use Rattle.record_flaws.specs.Holds.{ticksHold, rowsHold};
 use model::Order;
 use record_soundness::due_in_range;
 use record_soundness::station_in_use;
-use row_soundness::limits::Limits;
-use row_soundness::limits::counted_total;
+use row_limits::Limits;
+use row_limits::counted_total;
 
 // By how much a is above b.
 fn above(a: u16, b: u16) -> u16

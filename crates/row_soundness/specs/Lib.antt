@@ -1,3 +1,2 @@
 -- What is asked of two rows together.
 pub mod Maxima
-pub mod Limits

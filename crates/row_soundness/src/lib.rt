@@ -1,6 +1,4 @@
 // Document 01, "Sound means", for a row of eight entries, of which the first n are in use.
-pub mod limits; // limits.rt: what may stand at each place
-
 ghost use mathlib.Core.Path.{_≡_};
 ghost use mathlib.Core.Bool.{cond};
 ghost use Prim.Native.Nat.{_+_, _-_, _≤_, _<_, max};

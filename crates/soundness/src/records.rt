@@ -15,7 +15,7 @@ use record_flaws::ticks_hold;
 use record_soundness::Tests;
 use record_soundness::both;
 use record_soundness::tested;
-use row_soundness::limits::limits_of;
+use row_limits::limits_of;
 use row_soundness::ranks_zero_beyond;
 use row_soundness::zero_beyond;
 

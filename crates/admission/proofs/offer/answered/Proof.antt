@@ -6,9 +6,9 @@ use mir.Facts.{toZ-ofZ}
 use borrow.Author.Needs.{needs}
 use Rattle.model.specs.Admission as defined
 use Rattle.image.specs.Pipeline.{listed}
-use Rattle.row_soundness.specs.declared.limits.Limits.{Limits}
-use Rattle.row_soundness.specs.Limits.{Made}
-use Rattle.row_soundness.proofs.LimitLaws.{made}
+use Rattle.row_limits.specs.declared.Limits.{Limits}
+use Rattle.row_limits.specs.Limits.{Made}
+use Rattle.row_limits.proofs.LimitLaws.{made}
 use Rattle.margins.specs.Margins.{MarginFits}
 use Rattle.admission.specs.Answers.{Decides}
 use Rattle.admission.proofs.PipelineLaws.{few, arrival-tried, live-tried, arrival-is, others-are}

@@ -8,8 +8,8 @@ use borrow.Author.Tests.{not-true, not-false}
 use Rattle.model.specs.Lists.{all, isZero}
 use Rattle.model.specs.Image.{ordersOf}
 use Rattle.model.specs.Soundness.{zeroBeyond}
-use Rattle.row_soundness.specs.declared.limits.Limits.{Limits}
-use Rattle.row_soundness.proofs.LimitLaws.{made}
+use Rattle.row_limits.specs.declared.Limits.{Limits}
+use Rattle.row_limits.proofs.LimitLaws.{made}
 use Rattle.record_flaws.specs.Holds.{recordHolds}
 use Rattle.soundness.proofs.RecordLaws.{held-none, held-more, held-fails}
 use Rattle.soundness.proofs.records.all_hold.Statement.{statement}

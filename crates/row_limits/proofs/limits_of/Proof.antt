@@ -1,7 +1,7 @@
 -- The three rows.
 use borrow.Author.Needs.{needs}
-use Rattle.row_soundness.proofs.limits.limits_of.Statement.{statement}
-use Rattle.row_soundness.proofs.limits.limits_of.Tie as tie
+use Rattle.row_limits.proofs.limits_of.Statement.{statement}
+use Rattle.row_limits.proofs.limits_of.Tie as tie
 
 first-places-requires : tie.Need-first-places-requires
 first-places-requires c κs = search needs

@@ -9,11 +9,11 @@ use mir.Val.{Fits}
 use borrow.Author.Needs.{needs}
 use Rattle.model.specs.Lists.{total, upward}
 use Rattle.lists.proofs.Tests.{total-upward}
-use Rattle.row_soundness.specs.Limits.{firstPlaces}
-use Rattle.row_soundness.specs.declared.limits.Limits.{Limits}
-use Rattle.row_soundness.proofs.LimitLaws.{counted-is}
-use Rattle.row_soundness.proofs.limits.counted_total.Statement.{statement}
-use Rattle.row_soundness.proofs.limits.counted_total.Tie as tie
+use Rattle.row_limits.specs.Limits.{firstPlaces}
+use Rattle.row_limits.specs.declared.Limits.{Limits}
+use Rattle.row_limits.proofs.LimitLaws.{counted-is}
+use Rattle.row_limits.proofs.counted_total.Statement.{statement}
+use Rattle.row_limits.proofs.counted_total.Tie as tie
 
 abbrev Inv-loop : tie.InvT-loop
 Inv-loop maxima counted t₀ k₀ t k = (k ≤ 8) × (t ≤ 65535 * k) × (t ≡ total (upward 0 k (λ j. bitAnd (getD maxima j 0) (getD counted j 0))))

@@ -14,8 +14,8 @@ use borrow.Author.Tests.{ltb-true, ltb-false}
 use Rattle.model.specs.Lists.{total, upward}
 use Rattle.lists.proofs.Fills.{getD-upward, upward-same}
 use Rattle.lists.proofs.Tests.{either, total-none, total-first, total-upward}
-use Rattle.row_soundness.specs.declared.limits.Limits.{Limits}
-use Rattle.row_soundness.specs.Limits.{firstPlaces, limitsOf, Made}
+use Rattle.row_limits.specs.declared.Limits.{Limits}
+use Rattle.row_limits.specs.Limits.{firstPlaces, limitsOf, Made}
 
 -- Eight entries of eight times x and eight times 0, from that place on that leaves `count` times x.
 pub table-place : (x count k : ℕ) → count ≤ 8 → k < 8 → getD (replicate 8 x ++ replicate 8 0) (8 - count + k) 0 ≡ cond (ltb k count) x 0

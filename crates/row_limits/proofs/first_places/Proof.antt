@@ -8,10 +8,10 @@ use lib.Dec.{ltb}
 use borrow.Author.Needs.{needs}
 use Rattle.model.specs.Lists.{upward}
 use Rattle.lists.proofs.Fills.{fill-start, fill-next, fill-end}
-use Rattle.row_soundness.specs.Limits.{firstPlaces}
-use Rattle.row_soundness.proofs.LimitLaws.{table-place}
-use Rattle.row_soundness.proofs.limits.first_places.Statement.{statement}
-use Rattle.row_soundness.proofs.limits.first_places.Tie as tie
+use Rattle.row_limits.specs.Limits.{firstPlaces}
+use Rattle.row_limits.proofs.LimitLaws.{table-place}
+use Rattle.row_limits.proofs.first_places.Statement.{statement}
+use Rattle.row_limits.proofs.first_places.Tie as tie
 
 abbrev Inv-loop : tie.InvT-loop
 Inv-loop count x table row₀ k₀ row k = (k ≤ 8) × (length row ≡ 8) × (take k row ≡ upward 0 k (λ j. cond (ltb j count) x 0))

@@ -6,7 +6,7 @@ use Prim.Native.Nat.{ℕ, _-_, _≤_}
 use lib.Dec.{ltb}
 use Rattle.model.specs.Limits.{maxStations, maxCost}
 use Rattle.model.specs.Lists.{upward}
-use Rattle.row_soundness.specs.declared.limits.Limits.{Limits}
+use Rattle.row_limits.specs.declared.Limits.{Limits}
 
 -- x at the first places of eight, and 0 at the others.
 unfoldable pub firstPlaces : ℕ → ℕ → List ℕ

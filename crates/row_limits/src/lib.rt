@@ -1,13 +1,18 @@
 // What may stand at each place of a row, as rows of numbers: a test of a row against them goes place by place in the same
 // way at every place, and a compiler takes eight places together.
 ghost use mathlib.Core.Path.{_≡_};
-ghost use Prim.Native.Nat.{_-_, _≤_};
+ghost use Prim.Native.Nat.{_-_, _≤_, _<_};
 ghost use lib.ListN.{take};
 ghost use Rattle.model.specs.Limits.{maxStations};
 ghost use Rattle.model.specs.Lists.{total};
-ghost use Rattle.row_soundness.specs.Limits.{firstPlaces, limitsOf, Made};
-use super::wide;
+ghost use Rattle.row_limits.specs.Limits.{firstPlaces, limitsOf, Made};
 use model::limits::MAX_COST;
+
+fn wide(x: u16) -> u32
+    ensures { λ r. ⌜ (r ≡ x) × (r < 65536) ⌝ }
+{
+    x as u32
+}
 
 // For a pipeline of n stations.
 pub struct Limits {

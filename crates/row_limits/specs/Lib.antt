@@ -1,0 +1,2 @@
+-- The limits of a row.
+pub mod Limits

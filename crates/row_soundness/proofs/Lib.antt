@@ -1,2 +1,0 @@
--- Laws of limits.
-pub mod LimitLaws
