@@ -3,4 +3,3 @@ pub mod FitLaws
 pub mod PipelineLaws
 pub mod TryLaws
 pub mod OfferLaws
-pub mod AcceptLaws

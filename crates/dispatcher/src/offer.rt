@@ -7,7 +7,7 @@ ghost use Rattle.model.specs.Calls.{replyQuestion, imageQuestions, offerCall, q
 ghost use Rattle.dispatcher.specs.Gives.{Gives};
 ghost use Rattle.dispatcher.specs.Heard.{Heard};
 use super::reply::put_reply;
-use admission::accept::accept;
+use acceptance::accept;
 use admission::decision::reply_of;
 use admission::offer::offer;
 use image::decode::decode;

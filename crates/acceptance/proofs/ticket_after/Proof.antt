@@ -1,8 +1,8 @@
 -- By the test.
 use borrow.Author.Tests.{ne-eqb}
 use borrow.Author.Needs.{needs}
-use Rattle.admission.proofs.accept.ticket_after.Statement.{statement}
-use Rattle.admission.proofs.accept.ticket_after.Tie as tie
+use Rattle.acceptance.proofs.ticket_after.Statement.{statement}
+use Rattle.acceptance.proofs.ticket_after.Tie as tie
 
 add-result : tie.Need-add-result
 add-result c = search needs

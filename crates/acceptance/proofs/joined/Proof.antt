@@ -11,8 +11,8 @@ use Rattle.model.specs.Lists.{largest}
 use Rattle.model.specs.Admission.{joinedBy}
 use Rattle.lists.proofs.Fills.{replaced-read, replaced-next, past}
 use Rattle.roundtrip.proofs.Rows.{getD-in}
-use Rattle.admission.proofs.accept.joined.Statement.{statement}
-use Rattle.admission.proofs.accept.joined.Tie as tie
+use Rattle.acceptance.proofs.joined.Statement.{statement}
+use Rattle.acceptance.proofs.joined.Tie as tie
 
 abbrev Inv-loop : tie.InvT-loop
 Inv-loop b live top orders i₀ list i = (i ≤ live) × (length list ≡ 32) × (list ≡ map (joinedBy b) (take i orders) ++ drop i orders)

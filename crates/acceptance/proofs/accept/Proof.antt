@@ -1,10 +1,10 @@
 -- The joined orders, and the arrival in the first unused record.
 use native.Mathlib.Omega.{arith}
 use borrow.Author.Needs.{needs}
 use Rattle.admission.proofs.PipelineLaws.{live-is, few, sums-fit}
-use Rattle.admission.proofs.AcceptLaws.{accepted}
-use Rattle.admission.proofs.accept.accept.Statement.{statement}
-use Rattle.admission.proofs.accept.accept.Tie as tie
+use Rattle.acceptance.proofs.AcceptLaws.{accepted}
+use Rattle.acceptance.proofs.accept.Statement.{statement}
+use Rattle.acceptance.proofs.accept.Tie as tie
 
 wide-requires : tie.Need-wide-requires
 wide-requires c κs = search needs

@@ -1,0 +1,2 @@
+-- Laws of the accepted state.
+pub mod AcceptLaws
