@@ -1,15 +1,11 @@
 -- The number first: it tells what may be written. A done call writes the whole image and the whole reply, a decline the reply alone, and 1 nothing.
-use mathlib.Core.Path.{_≡_, sym, ap, _∙_}
-use Prim.Native.Nat.{ℕ, _≤_, _%_}
+use mathlib.Core.Path.{_≡_, sym, _∙_}
+use Prim.Native.Nat.{_%_}
 use native.Mathlib.Omega.{arith}
 use denote.Ref.{now}
 use borrow.Author.Needs.{needs}
-use Rattle.model.specs.State.{fresh}
 use Rattle.model.specs.Image.{encode}
 use Rattle.model.specs.Calls.{openNumber}
-use Rattle.image.specs.declared.Pipeline.{Pipeline}
-use Rattle.image.specs.Pipeline.{padded, listed}
-use Rattle.image.proofs.TwoForms.{listed-padded}
 use Rattle.dispatcher.proofs.OpenLaws.{heard, whole, few, unheard, opened, declined}
 use Rattle.dispatcher.proofs.open.dispatcher_open.Statement.{statement}
 use Rattle.dispatcher.proofs.open.dispatcher_open.Tie as tie
