@@ -8,7 +8,7 @@ use model::Block;
 use model::Order;
 use row_soundness::larger;
 
-// The larger of two rows' entries, place by place. Neither the first row alone nor the smaller entries meet the promise.
+// The larger of two rows' entries, place by place. Neither 0 at the eighth place nor the smaller entries meet the promise.
 pub fn larger_row(a: [u16; 8], b: [u16; 8]) -> [u16; 8]
     ensures { λ r. ⌜ r ≡ lists.larger a b ⌝ }
 {
@@ -21,8 +21,8 @@ pub fn larger_row(a: [u16; 8], b: [u16; 8]) -> [u16; 8]
     row
 }
 
-// A live order with the arrival in its set. `top` is the arrival's largest cost, the same for every live order. Neither the
-// arrival's costs in the place of the larger ones nor the old sum meets the promise.
+// A live order with the arrival in its set. `top` is the arrival's largest cost, the same for every live order. Neither its
+// maxima from before nor its sum from before meets the promise.
 pub fn joined_by(b: Block, top: u32, o: Order) -> Order
     requires { ⌜ (top ≡ lists.largest (b .costs)) × (top + o .sum < 4294967296) ⌝ }
     ensures { λ r. ⌜ r ≡ joinedBy b o ⌝ }

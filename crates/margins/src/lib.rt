@@ -20,8 +20,8 @@ use model::Order;
 use row_limits::Limits;
 use row_limits::counted_total;
 
-// Acceptance tick + delay bound (document 01: delay sum). Neither the last station's maximum added nor the sum alone meets
-// the promise.
+// Acceptance tick + delay bound (document 01: delay sum). Neither the last station's maximum added nor the due tick in
+// the place of the acceptance tick meets the promise.
 pub fn bound_tick(l: Limits, o: Order) -> u32
     requires { ⌜ Made l × MarginFits (l .n) o ⌝ }
     ensures { λ r. ⌜ r ≡ boundTick (l .n) o ⌝ }

@@ -22,7 +22,7 @@ const RANKS_AT: usize = 4;
 
 const COSTS_AT: usize = 12;
 
-// What a block says. Neither ranks for costs nor the due-in's bytes in another order meets the promise.
+// What a block says. Neither the due-in read from the ranks nor ranks read from the costs meet the promise.
 pub fn block_of(order: &[u8]) -> Block
     requires { ⌜ length (now order) ≡ blockSize ⌝ }
     ensures { λ r. ⌜ r ≡ blockOf (now (order .entry)) ⌝ }

@@ -44,8 +44,8 @@ fn on_time_within(l: Limits, o: Order) -> bool
     (o.accepted <= o.due) & (o.sum <= span) & (counted_total(l, maxima) <= above_wide(span, o.sum))
 }
 
-// The clauses of a record's ticks and station. Neither an order accepted now refused nor one that is out a tick after its
-// due tick let through meets the promise.
+// The clauses of a record's ticks and station. Neither "no" to an order that was accepted now nor "no" to one that has
+// no tick to spare meets the promise.
 pub fn ticks_hold(l: Limits, clock: u32, o: Order) -> bool
     requires { ⌜ Made l ⌝ }
     ensures { λ r. ⌜ r ≡ ticksHold (l .n) clock o ⌝ }
@@ -55,7 +55,7 @@ pub fn ticks_hold(l: Limits, clock: u32, o: Order) -> bool
 
 // The flaws of the rows so far with those of one record more. 0 at a place says that every cost there is at least the
 // least, every maximum at least the cost and at most the most, and every sum at least the cost. Neither a cost of 0 at a
-// station let through nor a flaw for a maximum of 6,000 meets the promise.
+// station nor a cost above its maximum let through meets the promise.
 pub fn flaws_with(flaws: [u16; 8], l: Limits, o: Order) -> [u16; 8]
     requires { ⌜ Made l ⌝ }
     ensures { λ r. ⌜ all isZero r ≡ (all isZero flaws && rowsHold (l .n) o) ⌝ }

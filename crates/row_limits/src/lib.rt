@@ -38,7 +38,7 @@ fn first_places(count: usize, x: u16) -> [u16; 8]
     row
 }
 
-// Neither 6,001 for a maximum nor a limit of 1 at station n + 1 meets the promise.
+// Neither 6,001 for a maximum nor station n among the places that count meets the promise.
 pub fn limits_of(n: u32) -> Limits
     requires { ⌜ (1 ≤ n) × (n ≤ maxStations) ⌝ }
     ensures { λ r. ⌜ r ≡ limitsOf n ⌝ }

@@ -157,8 +157,8 @@ pub fn first_flaw(image: &[u8]) -> Flaw
     flaw_of(later_clauses(image, n, live as usize))
 }
 
-// The same clauses, where none has to be named. The station entries are read last: a compiler would keep
-// them in memory through the passes over the records.
+// The same clauses, where none has to be named. The station entries are read last: a compiler would keep them in memory
+// through the passes over the records.
 fn later_hold(image: &[u8], n: u32, live: usize) -> bool
     requires { ⌜ (length (now image) ≡ imageSize) × (n ≡ byte (now image) stationCountAt) × (live ≡ liveCount (now image)) × (live ≤ maxLive) × (1 ≤ n) × (n ≤ maxStations) ⌝ }
     ensures { λ r. ⌜ r ≡ laterHold (laterClauses (now (image .entry))) ⌝ }
