@@ -1,21 +1,63 @@
--- The arrival laid after the joined live orders, in the first unused record, is the accepted state.
-use mathlib.Core.Path.{_≡_, sym, ap, _∙_}
+-- The loop over the live orders puts the arrival into one interference set after the other. The arrival laid after them, in the first unused record, then
+-- gives the accepted state.
+use mathlib.Core.Path.{_≡_, refl, sym, ap, _∙_}
 use mathlib.Core.Bool.{cond}
 use mathlib.Core.List.{List, [], _∷_, _++_, map, append-assoc}
 use Prim.Native.Nat.{ℕ, suc, _+_, _-_, _<_}
 use native.Mathlib.Omega.{arith}
-use lib.ListN.{length, set, take, drop, replicate, length-append, length-map}
+use lib.ListN.{length, getD, set, take, drop, replicate, length-append, length-map}
 use lib.Dec.{eqb}
-use lib.Seq.{set-at, drop-at}
+use lib.Seq.{set-at, drop-at, getD-take}
 use Rattle.model.specs.declared.Block.{Block}
 use Rattle.model.specs.declared.Order.{Order}
 use Rattle.model.specs.Limits.{maxLive, lastTicket}
+use Rattle.model.specs.Lists.{largest}
 use Rattle.model.specs.Admission.{arrival, joinedBy, joinedLive, accept}
+use Rattle.lists.proofs.Fills.{replaced-read, replaced-next, past}
+use Rattle.roundtrip.proofs.Rows.{getD-in}
+use Rattle.offers.specs.Considered.{Fitting}
 use Rattle.image.specs.declared.Pipeline.{Pipeline}
 use Rattle.image.specs.Pipeline.{unused, listed, padded}
-use Rattle.admission.specs.Answers.{SoundPipeline}
-use Rattle.admission.proofs.PipelineLaws.{live-is}
+use Rattle.sound_pipeline.specs.SoundPipeline.{SoundPipeline}
+use Rattle.sound_pipeline.proofs.Carried.{live-is}
+use Rattle.admission.proofs.PipelineLaws.{sums-fit}
 
+-- A state whose first i orders have the arrival in their interference sets.
+unfoldable pub joinedFirst : Pipeline → Block → ℕ → Pipeline
+joinedFirst p b i =
+    record { n = p .n; live = p .live; clock = p .clock; next = p .next; services = p .services; orders = map (joinedBy b) (take i (p .orders)) ++ drop i (p .orders) }
+
+pub joined-none : (p : Pipeline) (b : Block) → p ≡ joinedFirst p b 0
+unfolding joinedFirst
+joined-none p b = refl
+
+-- One live order more.
+module _ {p : Pipeline} (ok : SoundPipeline p) (b : Block) (i : ℕ) (low : i < p .live) {q : Pipeline} (so-far : q ≡ joinedFirst p b i) where
+  within : i < length (p .orders)
+  unfolding padded
+  within =
+      let l = listed p .orders in
+      let long = ap (λ (s : Pipeline). length (s .orders)) (ok .whole) ∙ length-append l (replicate (maxLive - length l) unused) in
+      omega (arith, low, long, live-is ok)
+
+  -- The record at place i is still p's.
+  read : getD (q .orders) i past ≡ getD (p .orders) i past
+  unfolding joinedFirst
+  read = rw so-far (replaced-read (joinedBy b) past (p .orders) i)
+
+  -- Its sum fits with the arrival's largest cost, as that of every live order does.
+  pub next-fits : Fitting (listed p) b → largest (b .costs) + getD (q .orders) i past .sum < 4294967296
+  unfolding listed
+  next-fits f =
+      let live = take (p .live) (p .orders) in
+      let here = getD-in live past i (omega (arith, low, live-is ok)) in
+      rw (read, ← getD-take (p .live) (p .orders) i past low) (sums-fit ok f refl (getD live i past) here)
+
+  pub joined-next : {o : Order} → o ≡ joinedBy b (getD (q .orders) i past) → record { n = q .n; live = q .live; clock = q .clock; next = q .next; services = q .services; orders = set (q .orders) i o } ≡ joinedFirst p b (i + 1)
+  unfolding joinedFirst
+  joined-next e = rw (so-far, replaced-next (joinedBy b) past (p .orders) _ i _ within refl (e ∙ ap (joinedBy b) read))
+
+-- All live orders are joined, and the arrival follows them.
 module _ {p : Pipeline} (ok : SoundPipeline p) (b : Block) (room : length (listed p .orders) < maxLive) where
   rest : drop (p .live) (p .orders) ≡ unused ∷ replicate (maxLive - (p .live + 1)) unused
   unfolding padded
@@ -42,6 +84,6 @@ module _ {p : Pipeline} (ok : SoundPipeline p) (b : Block) (room : length (liste
       ∙ sym (append-assoc (joinedLive (listed p) b) (arrival (listed p) b ∷ []) spare)
       ∙ ap (λ (k : ℕ). accept (listed p) b .orders ++ replicate (maxLive - k) unused) (sym accepted-length)
 
-  pub accepted : {a : Order} {orders : List Order} {next : ℕ} → a ≡ arrival (listed p) b → orders ≡ map (joinedBy b) (take (p .live) (p .orders)) ++ drop (p .live) (p .orders) → next ≡ cond (eqb (p .next) lastTicket) 0 (p .next + 1) → record { n = p .n; live = p .live + 1; clock = p .clock; next = next; services = p .services; orders = set orders (p .live) a } ≡ padded (accept (listed p) b)
-  unfolding padded listed accept
-  accepted e o n = rw (e, o, n, laid, ← accepted-length)
+  pub accepted : {q : Pipeline} {a : Order} {next : ℕ} → q ≡ joinedFirst p b (p .live) → a ≡ arrival (listed p) b → next ≡ cond (eqb (p .next) lastTicket) 0 (p .next + 1) → record { n = q .n; live = p .live + 1; clock = q .clock; next = next; services = q .services; orders = set (q .orders) (p .live) a } ≡ padded (accept (listed p) b)
+  unfolding padded listed accept joinedFirst
+  accepted j e n = rw (j, e, n, laid, ← accepted-length)

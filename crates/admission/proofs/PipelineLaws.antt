@@ -1,34 +1,26 @@
 -- What a state that a sound image says gives the code that carries it: in words of the code's own fields, which are the state's.
-use mathlib.Core.Path.{_≡_, refl, ap, subst, _∙_}
+use mathlib.Core.Path.{_≡_, refl, subst, _∙_}
 use mathlib.Core.List.{map}
-use Prim.Native.Nat.{ℕ, _+_, _≤_, _<_}
+use Prim.Native.Nat.{ℕ, _+_, _<_}
 use native.Mathlib.Omega.{arith}
-use lib.ListN.{length, take}
+use lib.ListN.{take}
 use lib.IntN.{pos}
 use Rattle.model.specs.declared.Block.{Block}
 use Rattle.model.specs.declared.Order.{Order}
-use Rattle.model.specs.Limits.{maxLive}
 use Rattle.model.specs.Lists.{largest}
 use Rattle.model.specs.DelayBound.{delayBound, boundTick, margin}
 use Rattle.model.specs.Admission.{arrival, joinedBy, joinedLive, smallest}
 use Rattle.schedule.specs.Valid.{_∈_}
 use Rattle.image.specs.declared.Pipeline.{Pipeline}
-use Rattle.image.specs.Pipeline.{listed, padded}
+use Rattle.image.specs.Pipeline.{listed}
 use Rattle.offers.specs.Considered.{Fitting}
+use Rattle.sound_pipeline.specs.SoundPipeline.{SoundPipeline}
 use Rattle.margins.specs.declared.Tried.{Tried}
 use Rattle.margins.specs.Margins.{MarginFits, Tryable, Tries}
 use Rattle.admission.specs.Decision.{arrivalWith}
-use Rattle.admission.specs.Answers.{SoundPipeline}
 use Rattle.admission.proofs.FitLaws.{arrival-fits, joined-fits}
 
 module _ {p : Pipeline} (ok : SoundPipeline p) where
-  pub live-is : p .live ≡ length (listed p .orders)
-  unfolding padded
-  live-is = ap (λ (q : Pipeline). q .live) (ok .whole)
-
-  pub few : p .live ≤ maxLive
-  few = omega (arith, live-is, ok .sound .facts .live)
-
   module _ {b : Block} (f : Fitting (listed p) b) {n : ℕ} (n-is : n ≡ p .n) where
     pub arrival-tried : {a : Order} → a ≡ arrival (listed p) b → MarginFits n a
     unfolding listed

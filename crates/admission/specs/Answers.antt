@@ -1,21 +1,13 @@
--- What is asked of a state that an order is offered to, and what an offer's answer says.
+-- What an offer's answer says.
 use mathlib.Core.Path.{_≡_}
 use mathlib.Core.List.{List}
 use Rattle.model.specs.declared.Block.{Block}
 use Rattle.model.specs.State.{State}
 use Rattle.model.specs.Questions.{Question, firstNo}
 use Rattle.model.specs.Admission.{arrival, offerAnswer, quoteAnswer}
-use Rattle.image.specs.declared.Pipeline.{Pipeline}
-use Rattle.image.specs.Pipeline.{listed, padded}
-use Rattle.roundtrip.specs.SoundFacts.{SoundInRange}
 use Rattle.admission.specs.declared.decision.Decision.{Decision}
 use Rattle.admission.specs.declared.offer.Offered.{Offered}
 use Rattle.admission.specs.Decision.{numberOf, answerOf}
-
--- A state that a sound image says, as code carries it.
-pub record SoundPipeline (p : Pipeline) : Type 0 where
-  pub whole : p ≡ padded (listed p)
-  pub sound : SoundInRange (listed p)
 
 -- The first "no" among some questions, and what offer and quote give with it.
 pub record Decides (questions : List Question) (s : State) (b : Block) (d : Decision) : Type 0 where

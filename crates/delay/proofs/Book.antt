@@ -225,7 +225,7 @@ filed-starts h filed = record { rising = filed .rising; counted = filed .counted
 
 -- ---- leaving
 module _ (h : History) where
-  leaves-ticket : (e : Entry) → leaves h e .ticket ≡ e .ticket
+  pub leaves-ticket : (e : Entry) → leaves h e .ticket ≡ e .ticket
   unfolding leaves
   leaves-ticket e = by-cond (λ (x : Entry). x .ticket ≡ e .ticket) (live e) refl refl
 

@@ -34,7 +34,7 @@ use Rattle.delay.proofs.Promise.{promise-fresh, promise-starts, promise
 use Rattle.delay.proofs.Book.{Filed, new, joined, joins-out, joins-live, joins-out-stays, new-live, length-accept, same-n, same-clock, From, old, entered, from, members-out, record-joined, record-new, state-accept, filed-accept, state-starts, filed-starts, leaves-accepted, leaves-due, leaves-out-stays, members-leave, ticking, state-pass, filed-pass}
 
 -- ---- live and out
-live-none : (e : Entry) → live e ≡ true → e .out ≡ none
+pub live-none : (e : Entry) → live e ≡ true → e .out ≡ none
 unfolding live
 live-none e l = go (e .out) l
   where
@@ -42,11 +42,11 @@ live-none e l = go (e .out) l
     go none q = refl
     go (some t) q = absurd (true≢false (sym q))
 
-none-live : (e : Entry) → e .out ≡ none → live e ≡ true
+pub none-live : (e : Entry) → e .out ≡ none → live e ≡ true
 unfolding live
 none-live e q = ap isNone q
 
-some-out : (e : Entry) (t : ℕ) → e .out ≡ some t → live e ≡ false
+pub some-out : (e : Entry) (t : ℕ) → e .out ≡ some t → live e ≡ false
 unfolding live
 some-out e t q = ap isNone q
 
@@ -67,7 +67,7 @@ due-is : (h : History) (e : Entry) → recordOf h e .due ≡ entryDue e
 unfolding recordOf
 due-is h e = refl
 
-live-record : (h : History) (e : Entry) → e ∈ h .orders → live e ≡ true → recordOf h e ∈ stateOf h .orders
+pub live-record : (h : History) (e : Entry) → e ∈ h .orders → live e ≡ true → recordOf h e ∈ stateOf h .orders
 unfolding stateOf liveOrders
 live-record h e m l = Memᴰ·map (recordOf h) (in-only live (h .orders) m l)
 
@@ -198,28 +198,30 @@ module _ (ticked : List Service) (h : History) (kept : Kept h) (may : MayPass h 
       go (inr c) r = (sym (Option·some-injective (h .clock + 1) t (rw c at r)), leb-false (stationAfter ticked (entryView e)) (h .n) c)
 
   -- where an order after the tick comes from
-  from-before : {x : Entry} → x ∈ passIn ticked h .orders → (e : Entry) × (e ∈ h .orders) × (after e ≡ x)
+  pub from-before : {x : Entry} → x ∈ passIn ticked h .orders → (e : Entry) × (e ∈ h .orders) × (after e ≡ x)
   unfolding passIn leaveIn
   from-before m = Memᴰ·of-map after (h .orders) m
 
-  -- an order that a tick brings out was in service at the last station
-  last-ticket : (e : Entry) → e ∈ h .orders → live e ≡ true → h .n < stationAfter ticked (entryView e) → at idle ticked (h .n) .ticket ≡ e .ticket
+  -- an order that a tick brings out was in service at the last station, and has nothing to go
+  pub last-ends : (e : Entry) → e ∈ h .orders → live e ≡ true → h .n < stationAfter ticked (entryView e) → (at idle ticked (h .n) .ticket ≡ e .ticket) × (at idle ticked (h .n) .left ≡ 0)
   unfolding entryView recordOf
-  last-ticket e m l far = go (onward ticked (entryView e))
+  last-ends e m l far = go (onward ticked (entryView e))
     where
       high : e .station ≤ h .n
       high = unfold stateOf in kept .promise .valid .fit (recordOf h e) (live-record h e m l) .high
 
-      go : Onward ticked (entryView e) → at idle ticked (h .n) .ticket ≡ e .ticket
+      go : Onward ticked (entryView e) → (at idle ticked (h .n) .ticket ≡ e .ticket) × (at idle ticked (h .n) .left ≡ 0)
       go (Onward.stays q) = absurd (omega (arith, high, q))
-      go (Onward.leaves q t z) = let last : h .n ≡ e .station = omega (arith, high, q) in ap (λ (k : ℕ). at idle ticked k .ticket) last ∙ t
+      go (Onward.leaves q t z) =
+          let last : h .n ≡ e .station = omega (arith, high, q) in
+          (ap (λ (k : ℕ). at idle ticked k .ticket) last ∙ t, ap (λ (k : ℕ). at idle ticked k .left) last ∙ z)
 
   -- an order that is out after the tick: brought out by it, or out before
-  data Out (e : Entry) (t : ℕ) : Type 0 where
+  pub data Out (e : Entry) (t : ℕ) : Type 0 where
     now : live e ≡ true → t ≡ h .clock + 1 → h .n < stationAfter ticked (entryView e) → Out e t
     before : live e ≡ false → e .out ≡ some t → Out e t
 
-  outs-after : (e : Entry) (t : ℕ) → after e .out ≡ some t → Out e t
+  pub outs-after : (e : Entry) (t : ℕ) → after e .out ≡ some t → Out e t
   outs-after e t q = elim (test (live e)) [ inl l ↦ (let w = out-after e l t q in now l (w .0) (w .1)) | inr l ↦ before l (ap (λ (x : Entry). x .out) (sym (leaves-out-stays ticks-on e l)) ∙ q) ]
 
   In-time : Entry → Type 0
@@ -237,7 +239,7 @@ module _ (ticked : List Service) (h : History) (kept : Kept h) (may : MayPass h 
   one-after e f m p t q r = ap after (go (outs-after e t q) (outs-after f t r))
     where
       go : Out e t → Out f t → e ≡ f
-      go (now l u far) (now k v away) = unique-by (λ (x : Entry). x .ticket) (h .orders) (kept .filed .rising) m p (sym (last-ticket e m l far) ∙ last-ticket f p k away)
+      go (now l u far) (now k v away) = unique-by (λ (x : Entry). x .ticket) (h .orders) (kept .filed .rising) m p (sym (last-ends e m l far .0) ∙ last-ends f p k away .0)
       go (now l u far) (before k v) = absurd (omega (arith, kept .outs f p t v .2))
       go (before l u) (now k v away) = absurd (omega (arith, kept .outs e m t u .2))
       go (before l u) (before k v) = kept .one-out e f m p t u v
@@ -320,7 +322,7 @@ next-is : (h : History) → length (h .orders) + 1 < lastTicket → cond (eqb (s
 unfolding stateOf
 next-is h few = rw (ne-eqb (length (h .orders) + 1) lastTicket (λ e. omega arith)) (omega arith)
 
-accept-as : (b : Block) (h : History) → Filed h → length (h .orders) + 1 < lastTicket → accept (stateOf h) b ≡ stateOf (acceptIn b h)
+pub accept-as : (b : Block) (h : History) → Filed h → length (h .orders) + 1 < lastTicket → accept (stateOf h) b ≡ stateOf (acceptIn b h)
 accept-as b h filed few = plain-accept (stateOf h) b ∙ ap (λ (next : ℕ). acceptNext next (stateOf h) b) (next-is h few) ∙ sym (state-accept b h filed)
 
 stored : (events : List Event) (h : History) → Kept h → AllMayHappen h events → length (afterEvents h events .orders) < lastTicket → stateAfter (stateOf h) events ≡ stateOf (afterEvents h events)
@@ -330,7 +332,7 @@ stored (accepting b ∷ later) h kept may few =
 stored (starting ∷ later) h kept may few = ap (λ (s : State). stateAfter s later) (sym (state-starts h)) ∙ stored later (startsIn h) (kept-starts h kept) (may .1) few
 stored (passing ticked ∷ later) h kept may few = ap (λ (s : State). stateAfter s later) (sym (state-pass ticked h)) ∙ stored later (passIn ticked h) (kept-pass ticked h kept (may .0)) (may .1) few
 
-begun-is : (n : ℕ) → fresh n ≡ stateOf (begun n)
+pub begun-is : (n : ℕ) → fresh n ≡ stateOf (begun n)
 unfolding fresh stateOf begun liveOrders only
 begun-is n = refl
 

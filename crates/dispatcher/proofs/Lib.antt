@@ -1,4 +1,2 @@
 -- Laws of the calls.
 pub mod OpenLaws
-pub mod OfferLaws
-pub mod HeardLaws

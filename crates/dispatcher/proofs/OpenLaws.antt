@@ -15,7 +15,7 @@ use Rattle.model.specs.Image.{encode}
 use Rattle.model.specs.Questions.{firstNo, replyBytes}
 use Rattle.model.specs.Calls.{replyQuestion, lengthQuestion, openNumber, openCall, result}
 use Rattle.lists.proofs.Tests.{inside}
-use Rattle.dispatcher.specs.Gives.{Gives}
+use Rattle.call_results.specs.Gives.{Gives}
 
 module _ (image : List ℕ) (n : ℕ) (reply : List ℕ) where
   pub reply-no : (length reply ≡ replySize → ⊥) → 1 ≡ openNumber image n reply

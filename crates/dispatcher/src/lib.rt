@@ -2,4 +2,4 @@
 // join bytes and steps: each decides its number first, and only then writes.
 mod open; // open.rt: dispatcher_open
 mod offer; // offer.rt: dispatcher_quote, dispatcher_offer
-mod reply; // reply.rt: the 16 bytes that a call leaves
+mod advance; // advance.rt: dispatcher_advance

@@ -1,74 +1,10 @@
 // "quote and offer 1 to 12"; "Quote gives what offer would give, with ticket 0, and changes nothing in the image."
-ghost use mathlib.Core.Path.{_≡_};
-ghost use mathlib.Core.List.{[], _∷_, _++_};
-ghost use Rattle.model.specs.Questions.{firstNo};
-ghost use Rattle.model.specs.Admission.{blockLengthQuestion};
-ghost use Rattle.model.specs.Calls.{replyQuestion, imageQuestions, offerCall, quoteCall};
-ghost use Rattle.dispatcher.specs.Gives.{Gives};
-ghost use Rattle.dispatcher.specs.Heard.{Heard};
-use super::reply::put_reply;
-use acceptance::accept;
-use admission::decision::reply_of;
-use admission::offer::offer;
-use image::decode::decode;
-use margins::bits;
-use order_block::BLOCK_SIZE;
-use order_block::block_of;
-use questions::Answer;
-
-// Questions 1 to 5, which are asked of what is lent; the rest is asked of the state and of the order.
-fn first_number(image: &[u8], order: &[u8], reply: &[u8]) -> u32
-    ensures { λ r. ⌜ r ≡ firstNo (replyQuestion (now (reply .entry)) ∷ imageQuestions (now (image .entry)) ++ (blockLengthQuestion (now (order .entry)) ∷ [])) ⌝ }
-{
-    let number = questions::number(questions::answer_to(image, reply));
-    if number != 0 {
-        return number;
-    }
-    if order.len() != BLOCK_SIZE {
-        return questions::number(Answer::BlockLength);
-    }
-    0
-}
-
-fn quoted(image: &[u8], order: &[u8], reply: &mut [u8]) -> u32
-    requires { ⌜ Heard (now image) (now order) (now reply) ⌝ }
-    ensures { λ r. ⌜ Gives (quoteCall (now (image .entry)) (now (order .entry)) (now (reply .entry))) r (now (image .entry)) (now (reply .exit)) ⌝ }
-{
-    let offered = offer(decode(image), block_of(order));
-    let decision = offered.decision;
-    let given = reply_of(decision, 0);
-    put_reply(
-        reply,
-        given.number,
-        given.ticket,
-        given.tick,
-        bits(given.margin),
-    );
-    given.number
-}
-
-fn offered(image: &mut [u8], order: &[u8], reply: &mut [u8]) -> u32
-    requires { ⌜ Heard (now image) (now order) (now reply) ⌝ }
-    ensures { λ r. ⌜ Gives (offerCall (now (image .entry)) (now (order .entry)) (now (reply .entry))) r (now (image .exit)) (now (reply .exit)) ⌝ }
-{
-    let p = decode(image);
-    let b = block_of(order);
-    let offered = offer(p, b);
-    let decision = offered.decision;
-    let given = reply_of(decision, p.next);
-    put_reply(
-        reply,
-        given.number,
-        given.ticket,
-        given.tick,
-        bits(given.margin),
-    );
-    if given.number == 0 {
-        let arrival = offered.arrival;
-        image_writer::encode(image, accept(p, b, arrival));
-    }
-    given.number
-}
+ghost use Rattle.model.specs.Calls.{offerCall, quoteCall};
+ghost use Rattle.call_results.specs.Gives.{Gives};
+use call_results::put_reply;
+use offer_calls::first_number;
+use offer_calls::offered;
+use offer_calls::quoted;
 
 // Whether an order would be accepted, and what the reply would give. Neither a ticket in the reply nor an order block of 27
 // bytes taken meets the promise.

@@ -2,8 +2,8 @@
 ghost use mathlib.Core.Path.{_≡_};
 ghost use Rattle.model.specs.Calls.{openNumber, openCall};
 ghost use Rattle.questions.specs.Answer.{numberOf};
-ghost use Rattle.dispatcher.specs.Gives.{Gives};
-use super::reply::put_reply;
+ghost use Rattle.call_results.specs.Gives.{Gives};
+use call_results::put_reply;
 use image::layout::IMAGE_SIZE;
 use image::layout::REPLY_SIZE;
 use model::limits::MAX_STATIONS;

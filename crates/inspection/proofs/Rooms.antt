@@ -15,6 +15,7 @@ use Rattle.lists.specs.Stored.{Put}
 use Rattle.image.specs.Pipeline.{padded, Readable}
 use Rattle.image.proofs.TwoForms.{live-decoded}
 use Rattle.roundtrip.specs.InRange.{byteLimit, wordLimit, Below}
+use Rattle.roundtrip.proofs.Read.{decode-byte-ranks}
 use Rattle.roundtrip.proofs.Sound.{sound-gives}
 use Rattle.report.specs.Report.{lineFeed, figureLine, stateReport, clauseLine}
 use Rattle.report.proofs.Lengths.{length-clause}
@@ -47,7 +48,7 @@ pub sound-held : (image : List ℕ) → Below byteLimit image → sound image �
 unfolding padded
 sound-held image bytes e =
     let g = sound-gives image bytes e in
-    record { stations = g .facts .n-high; live = g .facts .live; room = state-room (decode image) (g .in-range) (g .facts .n-high) }
+    record { stations = g .facts .n-high; live = g .facts .live; room = state-room (decode image) (g .in-range) (decode-byte-ranks image bytes) (g .facts .n-high) }
 
 pub readable : (image : List ℕ) → length image ≡ imageSize → Held image → Readable image
 readable image whole h = record { whole = whole; room = omega (arith, h .live, live-decoded image) }

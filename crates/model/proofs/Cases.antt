@@ -1,20 +1,17 @@
--- The worked cases hold, by computation: one theorem for those of document 01, one for the further ones. And demand 3 speaks of more than empty lists: one
--- with two accepted orders, two opens that decline and a quote is allowed. (With `refl` alone, without `{a = true}`, each table is computed twice.)
+-- The worked cases hold, by computation: one theorem for those of document 01, one for the further ones. (With `refl` alone, without `{a = true}`, each
+-- table is computed twice.)
 use mathlib.Core.Path.{_≡_, refl}
-use mathlib.Core.Logic.{_≢_}
 use mathlib.Core.Bool.{Bool, true, false, _&&_}
-use mathlib.Core.List.{List, [], _∷_, _++_, map}
-use Prim.Native.Nat.{ℕ, suc}
-use native.Mathlib.Omega.{arith}
+use mathlib.Core.List.{List, [], _∷_, _++_}
+use Prim.Native.Nat.{ℕ}
 use Rattle.model.specs.Lists.{all}
 use Rattle.model.specs.Calls.{opening, perform}
-use Rattle.model.specs.History.{Entry}
-use Rattle.model.specs.Demand3.{Lent, Run, started, outcome, afterCall, afterAll, AllAllowed}
-use Rattle.model.specs.Table.{Row, opened, onward, holdsFrom, holds}
-use Rattle.model.specs.Cases.{X, Y, paperCases, tickCases, offerCases, imageCases, furtherCases, mixedStart, mixedCalls}
+use Rattle.model.specs.Demand3.{Lent, Run, started, outcome, afterCall}
+use Rattle.model.specs.Table.{Row, opened, onward, holds}
+use Rattle.model.specs.Cases.{paperCases, tickCases, offerCases, imageCases, furtherCases}
 
 -- A table is computed only once the one before it holds: a wrong definition is refused at the first table that it breaks.
-after : {A B : Type 0} → A → B → B
+pub after : {A B : Type 0} → A → B → B
 after a b = b
 
 pub paper-cases-hold : all holds paperCases ≡ true
@@ -57,16 +54,3 @@ opened-is-started image n reply = refl
 pub onward-is-afterCall : (run : Run) (lent : Lent) → onward run (lent .call) (outcome run lent) ≡ afterCall run lent
 unfolding onward afterCall
 onward-is-afterCall run lent = refl
-
--- `mixedCalls` is allowed: both opens in it decline.
-declined : {number : ℕ} (k : ℕ) → number ≡ suc k → number ≢ 0
-declined k e = omega arith
-
-pub mixed-allowed : AllAllowed mixedStart mixedCalls
-unfolding holdsFrom mixedStart mixedCalls X Y started afterCall outcome
-mixed-allowed = after further-cases-hold (tt, (declined 0 (refl {a = 1}), (declined 13 (refl {a = 14}), (tt, (tt, (tt, (tt, (tt, tt))))))))
-
--- Both orders are accepted in it, and no other.
-pub mixed-accepted : map (λ (e : Entry). e .ticket) (afterAll mixedStart mixedCalls .history .orders) ≡ 1 ∷ 2 ∷ []
-unfolding holdsFrom mixedStart mixedCalls X Y started afterCall outcome afterAll
-mixed-accepted = after mixed-allowed (refl {a = 1 ∷ 2 ∷ []})

@@ -378,15 +378,19 @@ imageCases = bytesInOrder ∷ sizesAndStations ∷ lastClock ∷ soundImages ∷
 unfoldable pub furtherCases : List (List Row)
 furtherCases = tickCases ++ offerCases ++ imageCases
 
--- A list of calls as demand 3 has them, from a done open with N = 2: "X, due-in 20, at 0", an open with a reply of 15 bytes, an open with N = 9, a late
--- quote, "then Y at 0, due-in 7", three advances.
-unfoldable pub mixedStart : Run
-mixedStart = started (replicate imageSize 165) 2 (lent replySize)
+-- Lists of calls as demand 3 has them, from a done open with N = 2. "X, due-in 20, at 0", an open with a reply of 15 bytes, an open with N = 9, a late
+-- quote, "then Y at 0, due-in 7", and seven advances: "X is out at 5, Y at 7."
+unfoldable pub listStart : Run
+listStart = started (replicate imageSize 165) 2 (lent replySize)
+
+abbrev withReply : ℕ → Call → Lent
+withReply size call = record { call = call; reply = lent size }
 
 unfoldable pub mixedCalls : List Lent
 mixedCalls =
     withReply 16 (offering (X 20 0)) ∷ withReply 15 (opening 3) ∷ withReply 16 (opening 9) ∷ withReply 16 (quoting (Y 6 5)) ∷ withReply 16 (offering (Y 7 5))
-    ∷ replicate 3 (withReply 16 advancing)
-  where
-    withReply : ℕ → Call → Lent
-    withReply size call = record { call = call; reply = lent size }
+    ∷ replicate 7 (withReply 16 advancing)
+
+-- "as the first two but X rank 5, Y rank 0: Y out at 3, X at 6."
+unfoldable pub reversedCalls : List Lent
+reversedCalls = withReply 16 (offering (X 20 5)) ∷ withReply 16 (offering (Y 7 0)) ∷ replicate 6 (withReply 16 advancing)

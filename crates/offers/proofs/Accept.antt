@@ -1,4 +1,4 @@
--- A sound state stays sound and in range as an arrival is accepted: a live order keeps its record but for a larger sum and larger maxima, and the questions say of the arrival what is asked of a record.
+-- A sound state stays sound and in range as an arrival is accepted: a live order keeps its record but for a larger sum and larger maxima, and the questions say of the arrival what is asked of a record. Its ranks stay bytes where the arrival's are.
 use mathlib.Core.Path.{_≡_, refl, subst}
 use mathlib.Core.Logic.{inl, inr}
 use mathlib.Core.List.{List, [], _∷_, map, List·Memᴰ·head, List·Memᴰ·tail}
@@ -17,7 +17,7 @@ use Rattle.schedule.specs.Valid.{_∈_, cost, Valid}
 use Rattle.schedule.specs.Accept.{acceptNext}
 use Rattle.schedule.proofs.Laws.{eqb-cases, at-larger, at-replicate}
 use Rattle.schedule.proofs.Accept.{Origin, old, new, origin, next-after, valid-accept}
-use Rattle.roundtrip.specs.InRange.{byteLimit, wordLimit, Row, InRange}
+use Rattle.roundtrip.specs.InRange.{byteLimit, wordLimit, Below, InRange, ByteRanks}
 use Rattle.roundtrip.specs.SoundFacts.{maximum, SoundOrder, SoundState, Shaped, SoundInRange}
 use Rattle.roundtrip.proofs.Sound.{sound-valid}
 use Rattle.roundtrip.proofs.Fits.{sound-fits}
@@ -54,6 +54,10 @@ module _ (s : State) (b : Block) where
       go : Origin (accept s b .next) s b o → P o
       go (old p q e) = subst P e (joined p q)
       go (new e) = subst P e own
+
+  pub accept-byte-ranks : ByteRanks s → Below byteLimit (b .ranks) → ByteRanks (accept s b)
+  unfolding arrival joinedBy
+  accept-byte-ranks live own = each-live (λ o. Below byteLimit (o .ranks)) live own
 
   pub maxima-joined : (k bound : ℕ) (o : Order) → at 0 (b .costs) k ≤ bound → maximum o k ≤ bound → maximum (joinedBy b o) k ≤ bound
   unfolding joinedBy
@@ -133,7 +137,7 @@ module _ (s : State) (b : Block) where
           services = λ k low high. valid .service k;
         }
 
-    module _ (ranks : Row byteLimit (b .ranks)) (eight : length (b .costs) ≡ maxStations) where
+    module _ (eight-ranks : length (b .ranks) ≡ maxStations) (eight-costs : length (b .costs) ≡ maxStations) where
       next-fits : accept s b .next < wordLimit
       unfolding accept
       next-fits = elim (eqb-cases (s .next) lastTicket) [ inl t ↦ rw (t .0) (omega arith) | inr t ↦ rw (t .0) (omega (arith, t .1, h .in-range .next)) ]
@@ -145,8 +149,8 @@ module _ (s : State) (b : Block) where
             next = next-fits;
             eight = r .eight;
             ticket = each-live (λ o. o .ticket < wordLimit) (λ o m. r .orders o m .ticket) (r .next);
-            ranks = each-live (λ o. Row byteLimit (o .ranks)) (λ o m. r .orders o m .ranks) ranks;
-            costs = each-live (λ o. length (o .costs) ≡ maxStations) (λ o m. r .orders o m .costs .eight) eight;
+            ranks = each-live (λ o. length (o .ranks) ≡ maxStations) (λ o m. r .orders o m .ranks) eight-ranks;
+            costs = each-live (λ o. length (o .costs) ≡ maxStations) (λ o m. r .orders o m .costs .eight) eight-costs;
             maxima =
                 each-live (λ o. length (o .maxima) ≡ maxStations) (λ o m. omega (arith, length-larger (b .costs) (o .maxima), r .orders o m .maxima .eight))
                 (omega (arith, length-larger (b .costs) (liveMaxima (s .orders)), maxima-length maxStations (s .orders) (λ o m. r .orders o m .costs .eight)));

@@ -18,10 +18,11 @@ use Rattle.model.specs.Questions.{replyBytes}
 use Rattle.model.specs.Admission.{blockOf, arrival, joinedBy, joinedLive, smallestMargin, offerAnswer}
 use Rattle.model.specs.Calls.{offerNumber, offerCall, result}
 use Rattle.lists.proofs.Signs.{near}
-use Rattle.roundtrip.specs.InRange.{byteLimit, Below}
+use Rattle.roundtrip.specs.Iff.{_⇔_}
+use Rattle.roundtrip.specs.SoundFacts.{SoundState}
 use Rattle.roundtrip.proofs.Sound.{sound-gives}
-use Rattle.offers.specs.Considered.{Considered}
-use Rattle.offers.specs.Exact.{boundTickOf, _⇔_, Exact}
+use Rattle.offers.specs.Considered.{Fitting, Considered}
+use Rattle.offers.specs.Exact.{boundTickOf, Exact}
 use Rattle.offers.proofs.Questions.{Decided, both-pass, first-fails, second-fails, last, number-is, considered}
 use Rattle.offers.proofs.Times.{time-says, late-says, live-say, one-late}
 use Rattle.offers.proofs.Signs.{margin-sign, sign-smallest}
@@ -46,18 +47,15 @@ smallest-sign s b =
     ∙ ap (λ (t : Bool). t || not (all (onTime (s .n)) (joinedLive s b))) (margin-sign (s .n) (arrival s b))
 
 -- The order that has the smallest margin is the arrival or a live order, and both lie near their due ticks.
-in-range : (image block reply : List ℕ) → Below byteLimit image → Considered image block reply → mag (smallestMargin (decode image) (blockOf block)) < 2147483648
+pub margin-near : (s : State) (b : Block) → SoundState s → Fitting s b → mag (smallestMargin s b) < 2147483648
 unfolding boundTick joinedLive
-in-range image block reply bytes c =
-    let s = decode image in
-    let b = blockOf block in
-    let g = sound-gives image bytes (c .image-sound) .facts in
+margin-near s b g f =
     let m = smallest-margin s b in
-    let near-due : (o : Order) → Near s b g (c .fitting) o → mag (pos (o .due) -ℤ pos (boundTickOf (s .n) o)) < 2147483648 = λ o h. near (o .due) (boundTick (s .n) o) (h .1) (h .2) in
+    let near-due : (o : Order) → Near s b g f o → mag (pos (o .due) -ℤ pos (boundTickOf (s .n) o)) < 2147483648 = λ o h. near (o .due) (boundTick (s .n) o) (h .1) (h .2) in
     rw (m .attained)
     (elim (List·Memᴰ·cases-cons (m .among)) [
-      | inl e ↦ rw e (near-due (arrival s b) (arrival-near s b g (c .fitting)))
-      | inr q ↦ let w = Memᴰ·of-map (joinedBy b) (s .orders) q in rw (← w .2) (near-due (joinedBy b (w .0)) (joined-near s b g (c .fitting) (w .0) (w .1)))
+      | inl e ↦ rw e (near-due (arrival s b) (arrival-near s b g f))
+      | inr q ↦ let w = Memᴰ·of-map (joinedBy b) (s .orders) q in rw (← w .2) (near-due (joinedBy b (w .0)) (joined-near s b g f (w .0) (w .1)))
     ])
 
 pub exact : Exact
@@ -88,7 +86,7 @@ exact image block reply =
             given = smallestMargin s b;
             smallest = smallest-margin s b;
             written = margin-given image block reply decided;
-            signed32 = λ bytes. in-range image block reply bytes (considered image block reply decided);
+            signed32 = λ bytes. let c = considered image block reply decided in margin-near s b (sound-gives image bytes (c .usable .image-sound) .facts) (c .fitting);
             to-spare = λ e. let u = both-pass own live .only (asked 0 (inl refl) .only e .1) in sign ∙ rw (u .0, u .1);
             too-late = too-late;
           };

@@ -10,33 +10,35 @@ use Rattle.model.specs.Questions.{replyBytes}
 use Rattle.model.specs.Admission.{blockOf, accept, quoteAnswer}
 use Rattle.model.specs.Calls.{offerNumber, offerCall, quoteCall, result}
 use Rattle.schedule.proofs.Laws.{by-cond}
-use Rattle.roundtrip.specs.InRange.{byteLimit, Below, Row}
-use Rattle.roundtrip.proofs.Parts.{bytes-row}
+use Rattle.roundtrip.specs.InRange.{byteLimit, Below}
+use Rattle.roundtrip.proofs.Parts.{bytes-below}
 use Rattle.roundtrip.proofs.Written.{decode-encode, encode-length, encode-bytes, encode-marked}
+use Rattle.roundtrip.proofs.Read.{decode-byte-ranks}
 use Rattle.roundtrip.proofs.Sound.{sound-gives, gives-sound}
 use Rattle.offers.specs.Kept.{OfferKeepsSound, DeclineLeaves, QuoteGivesOffer}
-use Rattle.offers.proofs.Questions.{eight-costs}
+use Rattle.offers.proofs.Questions.{eight-ranks, eight-costs}
 use Rattle.offers.proofs.Exact.{exact}
-use Rattle.offers.proofs.Accept.{accept-sound}
+use Rattle.offers.proofs.Accept.{accept-byte-ranks, accept-sound}
 
-ranks-row : (block : List ℕ) → Below byteLimit block → Row byteLimit (blockOf block .ranks)
+block-ranks : (block : List ℕ) → Below byteLimit block → Below byteLimit (blockOf block .ranks)
 unfolding blockOf
-ranks-row block bytes = bytes-row block bytes blockRanksAt
+block-ranks block bytes = bytes-below block bytes blockRanksAt
 
-done-image : (image block reply : List ℕ) → offerNumber image block reply ≡ 0 → offerCall image block reply .image ≡ encode (accept (decode image) (blockOf block))
+pub done-image : (image block reply : List ℕ) → offerNumber image block reply ≡ 0 → offerCall image block reply .image ≡ encode (accept (decode image) (blockOf block))
 unfolding offerCall result
 done-image image block reply e = rw e
 
 pub offer-keeps-sound : OfferKeepsSound
 offer-keeps-sound image block reply image-bytes block-bytes done =
     let t = exact image block reply .done .only done in
-    let before = sound-gives image image-bytes (t .0 .image-sound) in
-    let h = accept-sound (decode image) (blockOf block) before (t .0 .fitting) (t .1) (t .2) (ranks-row block block-bytes) (eight-costs block) in
+    let before = sound-gives image image-bytes (t .0 .usable .image-sound) in
+    let h = accept-sound (decode image) (blockOf block) before (t .0 .fitting) (t .1) (t .2) (eight-ranks block) (eight-costs block) in
     let s = accept (decode image) (blockOf block) in
+    let ranks = accept-byte-ranks (decode image) (blockOf block) (decode-byte-ranks image image-bytes) (block-ranks block block-bytes) in
     rw (done-image image block reply done)
     (record {
       whole = encode-length s (h .in-range);
-      bytes = encode-bytes s (h .in-range);
+      bytes = encode-bytes s (h .in-range) ranks;
       is-marked = encode-marked s;
       is-sound = gives-sound s h;
       says = decode-encode s (h .in-range);

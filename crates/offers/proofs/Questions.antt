@@ -1,17 +1,16 @@
 -- The first "no" among an offer's questions. A number that no question among the first ten gives is decided by the last two, and says that the ten pass: that is `Considered`.
-use mathlib.Core.Path.{_≡_, refl, sym}
+use mathlib.Core.Path.{_≡_, refl}
 use mathlib.Core.Logic.{_⊎_, inl, inr}
-use mathlib.Core.Bool.{Bool, true, false, not, _&&_, true≢false}
+use mathlib.Core.Bool.{Bool, true, false, _&&_}
 use mathlib.Core.List.{List, [], _∷_, _++_}
 use Prim.Native.Nat.{ℕ, _≤_, _<_}
 use native.Mathlib.Omega.{arith}
 use lib.ListN.{length, take, drop}
-use lib.Dec.{leb, ltb, eqb}
-use borrow.Author.Tests.{eqb-false, not-true}
+use lib.Dec.{leb, ltb}
 use Rattle.model.specs.declared.Block.{Block}
 use Rattle.model.specs.Limits.{maxStations, maxLive, maxCost, maxDueIn, lastTick}
 use Rattle.model.specs.Lists.{at, all}
-use Rattle.model.specs.Bytes.{eightHalves}
+use Rattle.model.specs.Bytes.{eightBytes, eightHalves}
 use Rattle.model.specs.State.{State}
 use Rattle.model.specs.Layout.{imageSize, blockSize, replySize}
 use Rattle.model.specs.DelayBound.{onTime}
@@ -20,30 +19,12 @@ use Rattle.model.specs.Soundness.{stationCountInRange, costsInRange, zeroBeyond
 use Rattle.model.specs.Questions.{Question, _else_, firstNo}
 use Rattle.model.specs.Admission.{blockOf, dueOf, arrival, joinedLive, blockLengthQuestion, blockQuestions, stateQuestions, orderQuestions}
 use Rattle.model.specs.Calls.{replyQuestion, lengthQuestion, imageQuestions, offerNumber}
-use Rattle.lists.proofs.Tests.{and-both}
+use Rattle.roundtrip.specs.Iff.{_⇔_}
 use Rattle.roundtrip.proofs.Tests.{Says, leb-says, ltb-says, eqb-says, and-says, within-says, entries-say}
 use Rattle.roundtrip.proofs.Clauses.{zero-beyond, costs-say}
 use Rattle.roundtrip.proofs.Facts.{sound-says}
+use Rattle.roundtrip.proofs.Questions.{answer, gives-other, first-no}
 use Rattle.offers.specs.Considered.{Fitting, Considered}
-use Rattle.offers.specs.Exact.{_⇔_}
-
--- A question's answer, and whether its "no" gives another number than n.
-unfoldable pub answer : Question → Bool
-answer (b else number) = b
-
-unfoldable pub gives-other : ℕ → Question → Bool
-gives-other n (b else number) = not (eqb number n)
-
--- A number that none of the first questions gives comes from those after them, where all of the first pass.
-pub first-no : (n : ℕ) (l m : List Question) → all (gives-other n) l ≡ true → (firstNo (l ++ m) ≡ n) ⇔ ((all answer l ≡ true) × (firstNo m ≡ n))
-unfolding all firstNo answer gives-other
-first-no n [] m h = record { only = λ e. (refl, e); if = λ t. t .1 }
-first-no n ((true else k) ∷ l) m h = first-no n l m (and-both (not (eqb k n)) (all (gives-other n) l) h .1)
-first-no n ((false else k) ∷ l) m h =
-    record {
-      only = λ e. absurd (eqb-false k n (not-true (eqb k n) (and-both (not (eqb k n)) (all (gives-other n) l) h .0)) e);
-      if = λ t. absurd (true≢false (sym (t .0)));
-    }
 
 -- Questions 11 and 12 by their answers.
 abbrev pub lastTwo : Bool → Bool → ℕ
@@ -102,6 +83,10 @@ fitting s b long block due-in due-tick ticket room =
       room = ltb-says (length (s .orders)) maxLive .tells room;
     }
 
+pub eight-ranks : (block : List ℕ) → length (blockOf block .ranks) ≡ maxStations
+unfolding blockOf eightBytes
+eight-ranks block = refl
+
 pub eight-costs : (block : List ℕ) → length (blockOf block .costs) ≡ maxStations
 unfolding blockOf eightHalves
 eight-costs block = refl
@@ -129,24 +114,28 @@ module _ (image block reply : List ℕ) where
       there e =
           let passed = entries-say answer (λ q. answer q ≡ true) (λ q. record { tells = λ e. e; passes = λ e. e }) (true else 0) refl (take 10 questions) .tells e in
           record {
-            reply-whole = eqb-says (length reply) replySize .tells (passed 0);
-            image-whole = eqb-says (length image) imageSize .tells (passed 1);
-            image-marked = passed 2;
-            image-sound = passed 3;
+            usable =
+                record {
+                  reply-whole = eqb-says (length reply) replySize .tells (passed 0);
+                  image-whole = eqb-says (length image) imageSize .tells (passed 1);
+                  image-marked = passed 2;
+                  image-sound = passed 3;
+                };
             block-whole = eqb-says (length block) blockSize .tells (passed 4);
             fitting = fitting s b (enough-costs (passed 3)) (passed 5) (passed 6) (passed 7) (passed 8) (passed 9);
           }
 
       back : Considered image block reply → all answer (take 10 questions) ≡ true
       back c =
+          let u = c .usable in
           let f = c .fitting in
           rw (
-            eqb-says (length reply) replySize .passes (c .reply-whole),
-            eqb-says (length image) imageSize .passes (c .image-whole),
-            c .image-marked,
-            c .image-sound,
+            eqb-says (length reply) replySize .passes (u .reply-whole),
+            eqb-says (length image) imageSize .passes (u .image-whole),
+            u .image-marked,
+            u .image-sound,
             eqb-says (length block) blockSize .passes (c .block-whole),
-            block-says (s .n) b (enough-costs (c .image-sound)) .passes ((λ k low high. (f .cost-low k low high, f .cost-high k low high), f .cost-beyond), f .rank-beyond),
+            block-says (s .n) b (enough-costs (u .image-sound)) .passes ((λ k low high. (f .cost-low k low high, f .cost-high k low high), f .cost-beyond), f .rank-beyond),
             leb-says (b .«due_in») maxDueIn .passes (f .due-in),
             leb-says (dueOf (s .clock) b) lastTick .passes (f .due-tick),
             leb-says 1 (s .next) .passes (f .ticket-left),

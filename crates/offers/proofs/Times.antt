@@ -13,8 +13,9 @@ use Rattle.model.specs.DelayBound.{boundTick, onTime}
 use Rattle.model.specs.Admission.{joinedBy, joinedLive}
 use Rattle.schedule.specs.Valid.{_∈_}
 use Rattle.schedule.proofs.Laws.{test, all-member}
+use Rattle.roundtrip.specs.Iff.{_⇔_}
 use Rattle.roundtrip.proofs.Tests.{Says, leb-says, members-say, all-map}
-use Rattle.offers.specs.Exact.{boundTickOf, InTime, Late, _⇔_}
+use Rattle.offers.specs.Exact.{boundTickOf, InTime, Late}
 
 module _ (n : ℕ) (o : Order) where
   pub time-says : Says (onTime n o) (InTime n o)

@@ -1,6 +1,5 @@
 -- Document 01, "The questions, first "no" decides": 1 to 10 of an offer, as facts about what is lent.
 use mathlib.Core.Path.{_≡_}
-use mathlib.Core.Bool.{true}
 use mathlib.Core.List.{List}
 use Prim.Native.Nat.{ℕ, _≤_, _<_}
 use lib.ListN.{length}
@@ -8,10 +7,10 @@ use Rattle.model.specs.declared.Block.{Block}
 use Rattle.model.specs.Limits.{maxLive, maxCost, maxDueIn, lastTick}
 use Rattle.model.specs.Lists.{at}
 use Rattle.model.specs.State.{State}
-use Rattle.model.specs.Layout.{imageSize, blockSize, replySize}
-use Rattle.model.specs.Image.{marked, decode}
-use Rattle.model.specs.Soundness.{sound}
+use Rattle.model.specs.Layout.{blockSize}
+use Rattle.model.specs.Image.{decode}
 use Rattle.model.specs.Admission.{blockOf, dueOf}
+use Rattle.roundtrip.specs.Usable.{Usable}
 
 -- 6 to 10, of a block at a state.
 pub record Fitting (s : State) (b : Block) : Type 0 where
@@ -30,12 +29,8 @@ pub record Fitting (s : State) (b : Block) : Type 0 where
   pub room : length (s .orders) < maxLive
 
 pub record Considered (image block reply : List ℕ) : Type 0 where
-  -- 1 to 3. "Is the lent reply 16 bytes?", "Is the image 2,128 bytes?", "Mark and version as above?"
-  pub reply-whole : length reply ≡ replySize
-  pub image-whole : length image ≡ imageSize
-  pub image-marked : marked image ≡ true
-  -- 4. "Image sound?"
-  pub image-sound : sound image ≡ true
+  -- 1 to 4.
+  pub usable : Usable image reply
   -- 5. "Order block 28 bytes?"
   pub block-whole : length block ≡ blockSize
   pub fitting : Fitting (decode image) (blockOf block)

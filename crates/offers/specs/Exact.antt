@@ -17,6 +17,7 @@ use Rattle.model.specs.Image.{decode}
 use Rattle.model.specs.Admission.{blockOf, arrival, joinedBy, joinedLive}
 use Rattle.model.specs.Calls.{offerNumber, offerCall}
 use Rattle.schedule.specs.Valid.{_∈_}
+pub use Rattle.roundtrip.specs.Iff.{_⇔_}
 use Rattle.roundtrip.specs.InRange.{byteLimit, Below}
 use Rattle.offers.specs.Considered.{Considered}
 
@@ -34,12 +35,6 @@ Late n o = o .due < boundTickOf n o
 -- "Margin is due tick minus that total, a whole number that may be below zero."
 abbrev pub marginOf : ℕ → Order → ℤ
 marginOf n o = pos (o .due) -ℤ pos (boundTickOf n o)
-
--- Each follows from the other.
-infix 3 _⇔_
-pub record _⇔_ (P Q : Type 0) : Type 0 where
-  pub only : P → Q
-  pub if : Q → P
 
 -- A margin that is the smallest over the arrival and the live orders: one of them has it, and none a smaller one.
 pub record Smallest (s : State) (b : Block) (m : ℤ) : Type 0 where

@@ -1,7 +1,7 @@
 -- Document 01's number for each answer: 0 for done, otherwise the question's.
 use Prim.Native.Nat.{ℕ}
 use Rattle.questions.specs.declared.Answer.{Answer}
-use Rattle.questions.specs.declared.Answer.the-variants.{Passed, ReplyLength, ImageLength, Mark, Unsound, BlockLength, Stations}
+use Rattle.questions.specs.declared.Answer.the-variants.{Passed, ReplyLength, ImageLength, Mark, Unsound, BlockLength, Clock, Stations}
 
 abbrev pub numberOf : Answer → ℕ
 numberOf Passed = 0
@@ -10,4 +10,5 @@ numberOf ImageLength = 2
 numberOf Mark = 3
 numberOf Unsound = 4
 numberOf BlockLength = 5
+numberOf Clock = 13
 numberOf Stations = 14

@@ -27,6 +27,7 @@ pub enum Answer {
     Mark,
     Unsound,
     BlockLength,
+    Clock,
     Stations,
 }
 
@@ -41,6 +42,7 @@ pub fn number(answer: Answer) -> u32
         Answer::Mark => 3,
         Answer::Unsound => 4,
         Answer::BlockLength => 5,
+        Answer::Clock => 13,
         Answer::Stations => 14,
     }
 }

@@ -1,4 +1,4 @@
--- What a state in range says takes at most 8,000 bytes, so that a buffer of 8,192 always has room. By the largest number of digits
+-- What a state in range whose ranks are bytes says takes at most 8,000 bytes, so that a buffer of 8,192 always has room. By the largest number of digits
 -- of each figure, line by line.
 use mathlib.Core.Bool.{Bool, true, false}
 use mathlib.Core.Path.{_≡_, refl, ap}
@@ -17,7 +17,7 @@ use Rattle.lists.proofs.Fills.{past}
 use Rattle.text.specs.Decimal.{decimal}
 use Rattle.text.proofs.Decimals.{length-decimal}
 use Rattle.text.proofs.Rows.{rows-at-most}
-use Rattle.roundtrip.specs.InRange.{byteLimit, halfLimit, wordLimit, Row, ServiceInRange, OrderInRange, InRange}
+use Rattle.roundtrip.specs.InRange.{byteLimit, halfLimit, wordLimit, Below, Row, ServiceInRange, OrderInRange, InRange, ByteRanks}
 use Rattle.roundtrip.proofs.Rows.{getD-in}
 use Rattle.report.specs.Report.{lineFeed, figure, spaced, serviceWords, stationLine, orderLine, stationLines, orderLines, headLines, stateReport}
 use Rattle.report.proofs.Lengths.{numberRow, stationRow, orderRow, words-idle, length-busy, length-station, length-ticks, length-figures, length-costs, length-order, length-head, length-state, spaced-rows, station-rows, order-rows}
@@ -28,10 +28,10 @@ byte-digits v h = omega (arith, length-decimal 2 v (omega arith))
 half-digits : (v : ℕ) → v < halfLimit → length (figure " " v) ≤ 6
 half-digits v h = omega (arith, length-decimal 4 v (omega arith))
 
-bytes-room : (n : ℕ) (vs : List ℕ) → n ≤ 8 → Row byteLimit vs → length (spaced (take n vs)) ≤ 32
-bytes-room n vs h r =
-    rw (spaced-rows n vs (omega (arith, r .eight)))
-    (omega (arith, rows-at-most (numberRow vs) 4 n (λ i k. byte-digits (getD vs i 0) (r .below i))))
+bytes-room : (n : ℕ) (vs : List ℕ) → n ≤ 8 → length vs ≡ maxStations → Below byteLimit vs → length (spaced (take n vs)) ≤ 32
+bytes-room n vs h eight below =
+    rw (spaced-rows n vs (omega arith))
+    (omega (arith, rows-at-most (numberRow vs) 4 n (λ i k. byte-digits (getD vs i 0) (below i))))
 
 halves-room : (n : ℕ) (vs : List ℕ) → n ≤ 8 → Row halfLimit vs → length (spaced (take n vs)) ≤ 48
 halves-room n vs h r =
@@ -45,8 +45,8 @@ service-room e r false h = omega (arith, length-busy e h, length-decimal 9 (e .t
 station-room : (k : ℕ) (e : Service) → k ≤ 8 → ServiceInRange e → length (stationLine k e) ≤ 39
 station-room k e h r = omega (arith, length-station k e, length-decimal 0 k (omega arith), service-room e r (isIdle e) refl)
 
-order-room : (n : ℕ) → n ≤ 8 → (o : Order) → OrderInRange o → length (orderLine n o) ≤ 226
-order-room n h o r =
+order-room : (n : ℕ) → n ≤ 8 → (o : Order) → OrderInRange o → Below byteLimit (o .ranks) → length (orderLine n o) ≤ 226
+order-room n h o r ranks =
     omega (
       arith,
       length-order n o,
@@ -58,7 +58,7 @@ order-room n h o r =
       length-decimal 9 (o .due) (omega arith),
       length-decimal 9 (o .sum) (omega arith),
       length-decimal 2 (o .station) (omega arith),
-      bytes-room n (o .ranks) h (r .ranks),
+      bytes-room n (o .ranks) h (r .ranks) ranks,
       halves-room n (o .costs) h (r .costs),
       halves-room n (o .maxima) h (r .maxima),
     )
@@ -85,22 +85,22 @@ module _ (s : State) (r : InRange s) (h : s .n ≤ maxStations) where
       row : (i : ℕ) → i < s .n → length (stationRow (s .services) i) ≤ 39
       row i k = station-room (i + 1) (getD (s .services) i idle) (omega arith) (r .services _ (getD-in (s .services) idle i (omega (arith, r .eight))))
 
-  orders-room : length (orderLines (s .n) (s .orders)) ≤ 7232
-  orders-room =
+  orders-room : ByteRanks s → length (orderLines (s .n) (s .orders)) ≤ 7232
+  orders-room ranks =
       let all = take-all (length (s .orders)) (s .orders) (le-refl _) in
       rw (← all, order-rows (s .n) (length (s .orders)) (s .orders) (le-refl _))
       (omega (arith, rows-at-most (orderRow (s .n) (s .orders)) 226 (length (s .orders)) row, r .live))
     where
       row : (i : ℕ) → i < length (s .orders) → length (orderRow (s .n) (s .orders) i) ≤ 226
-      row i k = order-room (s .n) h (getD (s .orders) i past) (r .orders _ (getD-in (s .orders) past i k))
+      row i k = let m = getD-in (s .orders) past i k in order-room (s .n) h (getD (s .orders) i past) (r .orders _ m) (ranks _ m)
 
 -- 44 for the head, 39 for each of 8 stations and 226 for each of 32 orders make 7,588.
-pub state-room : (s : State) → InRange s → s .n ≤ maxStations → length (stateReport s) ≤ 8000
-state-room s r h =
+pub state-room : (s : State) → InRange s → ByteRanks s → s .n ≤ maxStations → length (stateReport s) ≤ 8000
+state-room s r ranks h =
     omega (
       arith,
       length-state s,
       head-room (s .n) (s .clock) (s .next) h (r .clock) (r .next),
       stations-room s r h,
-      orders-room s r h,
+      orders-room s r h ranks,
     )

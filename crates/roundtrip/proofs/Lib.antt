@@ -1,4 +1,4 @@
--- Numbers, rows and parts, then whole images; tests and what they say, then the statements about sound images.
+-- Numbers, rows and parts, then whole images; tests and what they say, then the statements about sound images, and the first questions about one.
 pub mod Numbers
 pub mod Rows
 pub mod Parts
@@ -12,3 +12,4 @@ pub mod Facts
 pub mod Sound
 pub mod Fits
 pub mod Fresh
+pub mod Questions

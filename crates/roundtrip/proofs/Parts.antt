@@ -65,7 +65,7 @@ spelled o =
 
 module _ (o : Order) (f : OrderInRange o) where
   spelled-is : spelled o ≡ o
-  spelled-is = rw (eight-is (o .ranks) (f .ranks .eight), eight-is (o .costs) (f .costs .eight), eight-is (o .maxima) (f .maxima .eight))
+  spelled-is = rw (eight-is (o .ranks) (f .ranks), eight-is (o .costs) (f .costs .eight), eight-is (o .maxima) (f .maxima .eight))
 
   spelled-read : orderOf (orderBytes (spelled o)) ≡ o
   unfolding orderOf orderBytes concat eightBytes eightHalves
@@ -76,7 +76,7 @@ module _ (o : Order) (f : OrderInRange o) where
         due = word-of-four (o .due) (f .due) i;
         sum = word-of-four (o .sum) (f .sum) i;
         station = byte-of-one (o .station) (f .station) i;
-        ranks = eight-is (o .ranks) (f .ranks .eight) i;
+        ranks = eight-is (o .ranks) (f .ranks) i;
         costs = halves-read (o .costs) (f .costs) i;
         maxima = halves-read (o .maxima) (f .maxima) i;
       }
@@ -115,13 +115,14 @@ module _ (p : List ℕ) (b : Below byteLimit p) where
   unfolding serviceOf
   service-in-range = record { ticket = word-below servedAt; left = half-below leftAt }
 
-  pub bytes-row : (i : ℕ) → Row byteLimit (eightBytes p i)
+  pub bytes-below : (i : ℕ) → Below byteLimit (eightBytes p i)
   unfolding eightBytes
-  bytes-row i =
-      record {
-        eight = refl;
-        below = below-listed (omega arith) (eightBytes p i) (omega (arith, b i, b (i + 1), b (i + 2), b (i + 3), b (i + 4), b (i + 5), b (i + 6), b (i + 7)));
-      }
+  bytes-below i =
+      below-listed (omega arith) (eightBytes p i) (omega (arith, b i, b (i + 1), b (i + 2), b (i + 3), b (i + 4), b (i + 5), b (i + 6), b (i + 7)))
+
+  pub ranks-below : Below byteLimit (orderOf p .ranks)
+  unfolding orderOf
+  ranks-below = bytes-below ranksAt
 
   halves-row : (i : ℕ) → Row halfLimit (eightHalves p i)
   unfolding eightHalves
@@ -134,7 +135,7 @@ module _ (p : List ℕ) (b : Below byteLimit p) where
       }
 
   pub order-in-range : OrderInRange (orderOf p)
-  unfolding orderOf
+  unfolding orderOf eightBytes
   order-in-range =
       record {
         ticket = word-below ticketAt;
@@ -142,7 +143,7 @@ module _ (p : List ℕ) (b : Below byteLimit p) where
         due = word-below dueAt;
         sum = word-below sumAt;
         station = b stationAt;
-        ranks = bytes-row ranksAt;
+        ranks = refl;
         costs = halves-row costsAt;
         maxima = halves-row maximaAt;
       }
@@ -155,9 +156,9 @@ service-below e = below-listed (omega arith) (serviceBytes e) (omega arith)
 halves-below : (l : List ℕ) → Below byteLimit (concat (map twoBytes l))
 halves-below l = below-rows (omega arith) twoBytes l (λ v m. below-listed (omega arith) (twoBytes v) (omega arith))
 
-pub order-below : (o : Order) → OrderInRange o → Below byteLimit (orderBytes o)
+pub order-below : (o : Order) → Below byteLimit (o .ranks) → Below byteLimit (orderBytes o)
 unfolding orderBytes
-order-below o r =
+order-below o ranks =
     let front = fourBytes (o .ticket) ++ fourBytes (o .accepted) ++ fourBytes (o .due) ++ fourBytes (o .sum) ++ oneByte (o .station) ++ (0 ∷ 0 ∷ 0 ∷ []) in
     let costs = concat (map twoBytes (o .costs)) in
     let maxima = concat (map twoBytes (o .maxima)) in
@@ -165,7 +166,7 @@ order-below o r =
     below-append some (front ++ o .ranks ++ costs ++ maxima) (0 ∷ 0 ∷ 0 ∷ 0 ∷ [])
     (below-append some (front ++ o .ranks ++ costs) maxima
     (below-append some (front ++ o .ranks) costs
-    (below-append some front (o .ranks) (below-listed some front (omega arith)) (r .ranks .below))
+    (below-append some front (o .ranks) (below-listed some front (omega arith)) ranks)
     (halves-below (o .costs)))
     (halves-below (o .maxima)))
     (below-listed some (0 ∷ 0 ∷ 0 ∷ 0 ∷ []) (omega arith))

@@ -99,7 +99,7 @@ encode-length s f =
     ∙ rw (records-length s f, length-replicate {A = ℕ} (recordSize * (maxLive - length (s .orders))) 0) (omega (arith, f .live)))
 
 pub encode-bytes : EncodeBytes
-encode-bytes s f =
+encode-bytes s f ranks =
     let some : 0 < byteLimit = omega arith in
     rw (parts s)
     (below-append some (header s ++ entries s ++ records s) (spare s)
@@ -107,7 +107,7 @@ encode-bytes s f =
     (below-append some (header s) (entries s)
     (below-listed some (header s) (omega (arith, f .n, f .live)))
     (below-rows some serviceBytes (s .services) (λ e m. service-below e)))
-    (below-rows some orderBytes (s .orders) (λ o m. order-below o (f .orders o m))))
+    (below-rows some orderBytes (s .orders) (λ o m. order-below o (ranks o m))))
     (zeros-below (recordSize * (maxLive - length (s .orders)))))
   where
     zeros-below : (n : ℕ) → Below byteLimit (replicate n 0)

@@ -35,13 +35,14 @@ pub record ServiceInRange (e : Service) : Type 0 where
 
 -- "ticket, acceptance tick, due tick, sum of the company's largest costs (4 each); station (1); ..
 -- eight ranks (1 each); eight costs (2 each); the company's largest cost at each station (2 each)"
+-- A rank is written as it is and read as it stands, so that its size is asked only where bytes are promised: `ByteRanks`.
 pub record OrderInRange (o : Order) : Type 0 where
   pub ticket : o .ticket < wordLimit
   pub accepted : o .accepted < wordLimit
   pub due : o .due < wordLimit
   pub sum : o .sum < wordLimit
   pub station : o .station < byteLimit
-  pub ranks : Row byteLimit (o .ranks)
+  pub ranks : length (o .ranks) ≡ maxStations
   pub costs : Row halfLimit (o .costs)
   pub maxima : Row halfLimit (o .maxima)
 
@@ -54,3 +55,7 @@ pub record InRange (s : State) : Type 0 where
   pub services : (e : Service) → e ∈ s .services → ServiceInRange e
   pub live : length (s .orders) ≤ maxLive
   pub orders : (o : Order) → o ∈ s .orders → OrderInRange o
+
+-- "eight ranks (1 each)": of every live order.
+abbrev pub ByteRanks : State → Type 0
+ByteRanks s = (o : Order) → o ∈ s .orders → Below byteLimit (o .ranks)

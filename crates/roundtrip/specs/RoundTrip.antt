@@ -8,7 +8,7 @@ use Rattle.model.specs.State.{State}
 use Rattle.model.specs.Layout.{imageSize}
 use Rattle.model.specs.Image.{marked, decode, encode}
 use Rattle.model.specs.Soundness.{sound}
-use Rattle.roundtrip.specs.InRange.{byteLimit, Below, InRange}
+use Rattle.roundtrip.specs.InRange.{byteLimit, Below, InRange, ByteRanks}
 
 -- What was written is what is read.
 abbrev pub DecodeEncode : Type 0
@@ -23,8 +23,12 @@ EncodeDecode =
 abbrev pub EncodeLength : Type 0
 EncodeLength = (s : State) → InRange s → length (encode s) ≡ imageSize
 
+-- It is bytes where the ranks are, and the ranks of an image of bytes are.
 abbrev pub EncodeBytes : Type 0
-EncodeBytes = (s : State) → InRange s → Below byteLimit (encode s)
+EncodeBytes = (s : State) → InRange s → ByteRanks s → Below byteLimit (encode s)
+
+abbrev pub DecodeByteRanks : Type 0
+DecodeByteRanks = (image : List ℕ) → Below byteLimit image → ByteRanks (decode image)
 
 -- "Bytes 0 to 2 are the mark `WMC`; 3 to 4 the version, 1"
 abbrev pub EncodeMarked : Type 0

@@ -13,7 +13,7 @@ use Rattle.model.specs.DelayBound.{delayBound}
 use Rattle.model.specs.Image.{decode, encode}
 use Rattle.model.specs.Soundness.{sound}
 use Rattle.schedule.specs.Valid.{_∈_, serving, cost, rank, Busy, Rising, Valid}
-use Rattle.roundtrip.specs.InRange.{byteLimit, wordLimit, Below, Row, InRange}
+use Rattle.roundtrip.specs.InRange.{byteLimit, wordLimit, Below, InRange}
 
 -- The company's largest cost at station k.
 abbrev pub maximum : Order → ℕ → ℕ
@@ -70,7 +70,7 @@ pub record Shaped (s : State) : Type 0 where
   pub next : s .next < wordLimit
   pub eight : length (s .services) ≡ maxStations
   pub ticket : (o : Order) → o ∈ s .orders → o .ticket < wordLimit
-  pub ranks : (o : Order) → o ∈ s .orders → Row byteLimit (o .ranks)
+  pub ranks : (o : Order) → o ∈ s .orders → length (o .ranks) ≡ maxStations
   pub costs : (o : Order) → o ∈ s .orders → length (o .costs) ≡ maxStations
   pub maxima : (o : Order) → o ∈ s .orders → length (o .maxima) ≡ maxStations
 

@@ -11,7 +11,8 @@ use Rattle.row_limits.specs.Limits.{Made}
 use Rattle.row_limits.proofs.LimitLaws.{made}
 use Rattle.margins.specs.Margins.{MarginFits}
 use Rattle.admission.specs.Answers.{Decides}
-use Rattle.admission.proofs.PipelineLaws.{few, arrival-tried, live-tried, arrival-is, others-are}
+use Rattle.sound_pipeline.proofs.Carried.{few}
+use Rattle.admission.proofs.PipelineLaws.{arrival-tried, live-tried, arrival-is, others-are}
 use Rattle.admission.proofs.FitLaws.{margin-fits}
 use Rattle.admission.proofs.TryLaws.{decides}
 use Rattle.admission.proofs.offer.answered.Statement.{statement}

@@ -13,7 +13,7 @@ use Rattle.lists.proofs.Signs.{flip}
 use Rattle.image.specs.Pipeline.{listed}
 use Rattle.offers.proofs.Questions.{fitting}
 use Rattle.admission.specs.Answers.{Offers}
-use Rattle.admission.proofs.PipelineLaws.{live-is}
+use Rattle.sound_pipeline.proofs.Carried.{live-is}
 use Rattle.admission.proofs.OfferLaws.{Block-is, costs-no, due-in-no, due-tick-no, tickets-no, room-no, all-yes}
 use Rattle.admission.proofs.offer.offer.Statement.{statement}
 use Rattle.admission.proofs.offer.offer.Tie as tie

@@ -3,7 +3,8 @@ use mathlib.Core.Path.{_≡_, sym, _∙_}
 use Prim.Native.Nat.{ℕ}
 use native.Mathlib.Omega.{arith}
 use borrow.Author.Needs.{needs}
-use Rattle.dispatcher.proofs.OfferLaws.{heard, replied, offer-unheard, offer-declined}
+use Rattle.roundtrip.proofs.Questions.{replied}
+use Rattle.offer_calls.proofs.OfferLaws.{heard, offer-unheard, offer-declined}
 use Rattle.dispatcher.proofs.offer.dispatcher_offer.Statement.{statement}
 use Rattle.dispatcher.proofs.offer.dispatcher_offer.Tie as tie
 
@@ -22,7 +23,7 @@ returns c = offer-unheard _ _ _ (c .before .first-number .result) (c .before .fi
 put-reply-requires : tie.Need-put-reply-requires
 put-reply-requires c κs =
     let number = c .before .before .before in
-    replied _ _ _ (λ e. c .before .before .if1 .left (number .first-number .ensures ∙ e))
+    replied _ _ (λ e. c .before .before .if1 .left (number .first-number .ensures ∙ e))
 
 same-length-3 : tie.Need-same-length-3
 same-length-3 c = search needs

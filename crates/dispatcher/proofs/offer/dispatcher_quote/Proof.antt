@@ -3,7 +3,8 @@ use mathlib.Core.Path.{_≡_, sym, _∙_}
 use Prim.Native.Nat.{ℕ}
 use native.Mathlib.Omega.{arith}
 use borrow.Author.Needs.{needs}
-use Rattle.dispatcher.proofs.OfferLaws.{heard, replied, quote-unheard, quote-declined}
+use Rattle.roundtrip.proofs.Questions.{replied}
+use Rattle.offer_calls.proofs.OfferLaws.{heard, quote-unheard, quote-declined}
 use Rattle.dispatcher.proofs.offer.dispatcher_quote.Statement.{statement}
 use Rattle.dispatcher.proofs.offer.dispatcher_quote.Tie as tie
 
@@ -19,7 +20,7 @@ returns c = quote-unheard _ _ _ (c .before .first-number .result) (c .before .fi
 put-reply-requires : tie.Need-put-reply-requires
 put-reply-requires c κs =
     let number = c .before .before .before in
-    replied _ _ _ (λ e. c .before .before .if1 .left (number .first-number .ensures ∙ e))
+    replied _ _ (λ e. c .before .before .if1 .left (number .first-number .ensures ∙ e))
 
 same-length-2 : tie.Need-same-length-2
 same-length-2 c = search needs

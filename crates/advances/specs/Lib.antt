@@ -1,0 +1,3 @@
+-- What holds of every advance.
+pub mod Exact
+pub mod Kept

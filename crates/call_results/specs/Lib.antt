@@ -1,0 +1,2 @@
+-- What the contracts of the calls say.
+pub mod Gives

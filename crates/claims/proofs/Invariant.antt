@@ -1,0 +1,230 @@
+-- The invariant over lists of calls: the image is that of the state that the history stands for, this state is sound, and no more orders were accepted than
+-- the clock shows and are live, so that tickets do not end. Every call that demand 3 allows keeps it.
+use mathlib.Core.Path.{_≡_, refl, sym, ap, subst, _∙_}
+use mathlib.Core.Logic.{_≢_}
+use mathlib.Core.Bool.{Bool, true, false}
+use mathlib.Core.List.{List, [], _∷_, _++_}
+use Prim.Native.Nat.{ℕ, zero, suc, _+_, _≤_, _<_}
+use native.Mathlib.Omega.{arith}
+use lib.ListN.{length, length-append, length-map}
+use lib.Dec.{ltb, eqb}
+use borrow.Author.Tests.{eq-eqb, le-leb, ne-eqb, ltb-true}
+use Rattle.model.specs.declared.Block.{Block}
+use Rattle.model.specs.declared.Order.{Order}
+use Rattle.model.specs.Limits.{maxStations, lastTick, lastTicket}
+use Rattle.model.specs.State.{State, fresh}
+use Rattle.model.specs.Tick.{advance}
+use Rattle.model.specs.Layout.{imageSize, replySize}
+use Rattle.model.specs.Image.{marked, decode, encode}
+use Rattle.model.specs.Soundness.{sound}
+use Rattle.model.specs.Questions.{Question, _else_, firstNo}
+use Rattle.model.specs.Admission.{blockOf, arrival, joinedBy, joinedLive, accept, orderQuestions}
+use Rattle.model.specs.Calls.{result, replyQuestion, lengthQuestion, imageQuestions, openNumber, openCall, offerNumber, offerCall, advanceNumber, advanceCall, Call, opening, quoting, offering, advancing, perform}
+use Rattle.model.specs.History.{History, begun, acceptIn, advanceIn, feed}
+use Rattle.model.specs.StateOf.{stateOf}
+use Rattle.model.specs.Demand3.{Lent, Run, started, outcome, afterCall, afterAll, Allowed, AllAllowed}
+use Rattle.schedule.specs.Valid.{_∈_}
+use Rattle.delay.specs.Events.{MayAccept}
+use Rattle.delay.proofs.Book.{length-accept, same-clock}
+use Rattle.delay.proofs.DueTimes as due
+use Rattle.roundtrip.specs.SoundFacts.{SoundInRange}
+use Rattle.roundtrip.proofs.Written.{decode-encode, encode-length, encode-marked}
+use Rattle.roundtrip.proofs.Sound.{gives-sound}
+use Rattle.roundtrip.proofs.Fresh.{fresh-sound}
+use Rattle.offers.specs.Considered.{Fitting}
+use Rattle.offers.specs.Exact.{InTime}
+use Rattle.offers.proofs.Questions.{eight-ranks, eight-costs}
+use Rattle.offers.proofs.Times.{time-says, live-say}
+use Rattle.offers.proofs.Exact.{exact}
+use Rattle.offers.proofs.Accept.{accept-sound}
+use Rattle.offers.proofs.Kept.{done-image, decline-leaves, quote-gives-offer}
+use Rattle.advances.proofs.Advance.{advance-sound}
+use Rattle.claims.proofs.Out.{advanced-count, advanced-clock, kept-advance, state-advance, one-out}
+
+pub record Invariant (run : Run) : Type 0 where
+  pub history : due.Kept (run .history)
+  pub image-is : run .image ≡ encode (stateOf (run .history))
+  pub is-sound : SoundInRange (stateOf (run .history))
+  pub counted : length (run .history .orders) ≤ run .history .clock + length (stateOf (run .history) .orders)
+
+-- ---- what the image of such a run passes
+-- A question decides alike before lists that decide alike.
+same-after : (q : Question) (l m : List Question) → firstNo l ≡ firstNo m → firstNo (q ∷ l) ≡ firstNo (q ∷ m)
+unfolding firstNo
+same-after (true else k) l m e = e
+same-after (false else k) l m e = refl
+
+module _ (run : Run) (kept : Invariant run) where
+  abbrev here : State
+  here = stateOf (run .history)
+
+  pub whole : length (run .image) ≡ imageSize
+  whole = ap (λ (l : List ℕ). length l) (kept .image-is) ∙ encode-length here (kept .is-sound .in-range)
+
+  pub is-marked : marked (run .image) ≡ true
+  is-marked = ap marked (kept .image-is) ∙ encode-marked here
+
+  pub sound-image : sound (run .image) ≡ true
+  sound-image = ap sound (kept .image-is) ∙ gives-sound here (kept .is-sound)
+
+  pub says : decode (run .image) ≡ here
+  says = ap decode (kept .image-is) ∙ decode-encode here (kept .is-sound .in-range)
+
+  -- So questions 2 to 4 are out of the way.
+  images-pass : (m : List Question) → firstNo (imageQuestions (run .image) ++ m) ≡ firstNo m
+  unfolding firstNo imageQuestions lengthQuestion
+  images-pass m = rw (eq-eqb (length (run .image)) imageSize whole, is-marked, sound-image)
+
+  pub offer-asks : (block reply : List ℕ) → offerNumber (run .image) block reply ≡ firstNo (replyQuestion reply ∷ orderQuestions here block)
+  unfolding offerNumber
+  offer-asks block reply =
+      same-after (replyQuestion reply) _ _ (images-pass (orderQuestions (decode (run .image)) block))
+      ∙ ap (λ (s : State). firstNo (replyQuestion reply ∷ orderQuestions s block)) says
+
+  pub advance-asks : (reply : List ℕ) → advanceNumber (run .image) reply ≡ firstNo (replyQuestion reply ∷ (ltb (here .clock) lastTick else 13) ∷ [])
+  unfolding advanceNumber
+  advance-asks reply =
+      same-after (replyQuestion reply) _ _ (images-pass ((ltb (decode (run .image) .clock) lastTick else 13) ∷ []))
+      ∙ ap (λ (s : State). firstNo (replyQuestion reply ∷ (ltb (s .clock) lastTick else 13) ∷ [])) says
+
+  -- Tickets are left.
+  pub few : length (run .history .orders) + 1 < lastTicket
+  few = unfold stateOf in omega (arith, kept .counted, kept .is-sound .facts .clock, kept .is-sound .facts .live)
+
+-- ---- the opening call
+module _ (image : List ℕ) (n : ℕ) (reply : List ℕ) (low : 1 ≤ n) (high : n ≤ maxStations) (image-whole : length image ≡ imageSize) (reply-whole : length reply ≡ replySize) where
+  pub open-done : openCall image n reply .number ≡ 0
+  unfolding openCall result openNumber firstNo replyQuestion lengthQuestion
+  open-done = rw (eq-eqb (length reply) replySize reply-whole, eq-eqb (length image) imageSize image-whole, le-leb 1 n low, le-leb n maxStations high)
+
+  open-image : openCall image n reply .image ≡ encode (fresh n)
+  unfolding openCall result
+  open-image = rw open-done
+
+  pub invariant-started : Invariant (started image n reply)
+  unfolding started begun
+  invariant-started =
+      record {
+        history = due.kept-begun n low high;
+        image-is = open-image ∙ ap encode (due.begun-is n);
+        is-sound = subst SoundInRange (due.begun-is n) (fresh-sound n low high .state);
+        counted = omega arith;
+      }
+
+-- ---- a done offer
+module _ (run : Run) (kept : Invariant run) (block reply : List ℕ) (done : offerNumber (run .image) block reply ≡ 0) where
+  abbrev b : Block
+  b = blockOf block
+
+  abbrev h : History
+  h = run .history
+
+  abbrev Passes : State → Type 0
+  Passes s = Fitting s b × InTime (s .n) (arrival s b) × ((o : Order) → o ∈ s .orders → InTime (s .n) (joinedBy b o))
+
+  passes : Passes (stateOf h)
+  passes = subst Passes (says run kept) (let t = exact (run .image) block reply .done .only done in (t .0 .fitting, t .1, t .2))
+
+  may : MayAccept h b
+  unfolding stateOf
+  may =
+      record {
+        costs = λ k low high. (passes .0 .cost-low k low high, passes .0 .cost-high k low high);
+        arrival-on-time = time-says (h .n) (arrival (stateOf h) b) .passes (passes .1);
+        live-on-time = live-say (stateOf h) b .passes (passes .2);
+      }
+
+  accepts : accept (stateOf h) b ≡ stateOf (acceptIn b h)
+  accepts = due.accept-as b h (kept .history .filed) (few run kept)
+
+  offered-state : SoundInRange (stateOf (acceptIn b h))
+  offered-state = subst SoundInRange accepts (accept-sound (stateOf h) b (kept .is-sound) (passes .0) (passes .1) (passes .2) (eight-ranks block) (eight-costs block))
+
+  more : length (accept (stateOf h) b .orders) ≡ length (stateOf h .orders) + 1
+  unfolding accept joinedLive
+  more = length-append (joinedLive (stateOf h) b) (arrival (stateOf h) b ∷ []) ∙ ap (λ (k : ℕ). k + 1) (length-map (stateOf h .orders) (joinedBy b))
+
+  pub invariant-offered : Invariant (record { image = offerCall (run .image) block reply .image; history = acceptIn b h })
+  invariant-offered =
+      record {
+        history = due.kept-accept b h (kept .history) may;
+        image-is = done-image (run .image) block reply done ∙ ap (λ (s : State). encode (accept s b)) (says run kept) ∙ ap encode accepts;
+        is-sound = offered-state;
+        counted = omega (arith, length-accept b h, same-clock b h, kept .counted, ap (λ (s : State). length (s .orders)) accepts, more);
+      }
+
+-- ---- a done advance
+both-pass : (a b : Bool) → firstNo ((a else 1) ∷ (b else 13) ∷ []) ≡ 0 → (a ≡ true) × (b ≡ true)
+unfolding firstNo
+both-pass true true e = (refl, refl)
+both-pass true false e = absurd (omega arith)
+both-pass false b e = absurd (omega arith)
+
+module _ (run : Run) (kept : Invariant run) (reply : List ℕ) (done : advanceNumber (run .image) reply ≡ 0) where
+  advanced-image : advanceCall (run .image) reply .image ≡ encode (advance (decode (run .image)))
+  unfolding advanceCall result
+  advanced-image = rw done
+
+  before-last : stateOf (run .history) .clock < lastTick
+  unfolding replyQuestion
+  before-last = ltb-true (stateOf (run .history) .clock) lastTick (both-pass (eqb (length reply) replySize) (ltb (stateOf (run .history) .clock) lastTick) (sym (advance-asks run kept reply) ∙ done) .1)
+
+  pub invariant-advanced : Invariant (record { image = advanceCall (run .image) reply .image; history = advanceIn (run .history) })
+  invariant-advanced =
+      record {
+        history = kept-advance (run .history) (kept .history);
+        image-is = advanced-image ∙ ap (λ (s : State). encode (advance s)) (says run kept) ∙ ap encode (sym (state-advance (run .history) (kept .history)));
+        is-sound = subst SoundInRange (sym (state-advance (run .history) (kept .history))) (advance-sound (stateOf (run .history)) (kept .is-sound) before-last);
+        counted =
+            omega (
+              arith,
+              advanced-count (run .history),
+              advanced-clock (run .history),
+              kept .counted,
+              one-out (stateOf (run .history)) (kept .history .promise .valid),
+              ap (λ (s : State). length (s .orders)) (state-advance (run .history) (kept .history)),
+            );
+      }
+
+-- ---- every allowed call
+module _ (run : Run) (kept : Invariant run) where
+  abbrev leaving : List ℕ → History → Run
+  leaving image h = record { image = image; history = h }
+
+  -- A call that leaves the image as it was.
+  unchanged : {image : List ℕ} → image ≡ run .image → Invariant (leaving image (run .history))
+  unchanged e = subst (λ (image : List ℕ). Invariant (leaving image (run .history))) (sym e) kept
+
+  opened-not : (n : ℕ) (reply : List ℕ) → openCall (run .image) n reply .number ≢ 0 → openCall (run .image) n reply .image ≡ run .image
+  unfolding openCall result
+  opened-not n reply other = rw (ne-eqb (openNumber (run .image) n reply) 0 other)
+
+  advanced-not : (reply : List ℕ) → advanceNumber (run .image) reply ≢ 0 → advanceCall (run .image) reply .image ≡ run .image
+  unfolding advanceCall result
+  advanced-not reply other = rw (ne-eqb (advanceNumber (run .image) reply) 0 other)
+
+  offered : (block reply : List ℕ) (k : ℕ) → offerNumber (run .image) block reply ≡ k → Invariant (leaving (offerCall (run .image) block reply .image) (feed (offering block) k (run .history)))
+  unfolding feed
+  offered block reply zero e = invariant-offered run kept block reply e
+  offered block reply (suc k) e = unchanged (decline-leaves (run .image) block reply (λ z. let w : _≡_ {A = ℕ} (suc k) 0 = sym e ∙ z in omega arith))
+
+  advanced : (reply : List ℕ) (k : ℕ) → advanceNumber (run .image) reply ≡ k → Invariant (leaving (advanceCall (run .image) reply .image) (feed advancing k (run .history)))
+  unfolding feed
+  advanced reply zero e = invariant-advanced run kept reply e
+  advanced reply (suc k) e = unchanged (advanced-not reply (λ z. let w : _≡_ {A = ℕ} (suc k) 0 = sym e ∙ z in omega arith))
+
+  called : (call : Call) (reply : List ℕ) → Allowed call (perform call (run .image) reply) → Invariant (leaving (perform call (run .image) reply .image) (feed call (perform call (run .image) reply .number) (run .history)))
+  unfolding perform
+  called (opening n) reply other = unfold feed in unchanged (opened-not n reply other)
+  called (quoting block) reply any = unfold feed in unchanged (quote-gives-offer (run .image) block reply .image-left)
+  called (offering block) reply any = unfold offerCall result in offered block reply (offerNumber (run .image) block reply) refl
+  called advancing reply any = unfold advanceCall result in advanced reply (advanceNumber (run .image) reply) refl
+
+  pub invariant-call : (lent : Lent) → Allowed (lent .call) (outcome run lent) → Invariant (afterCall run lent)
+  unfolding afterCall outcome
+  invariant-call lent allowed = called (lent .call) (lent .reply) allowed
+
+pub invariant-all : (calls : List Lent) (run : Run) → Invariant run → AllAllowed run calls → Invariant (afterAll run calls)
+unfolding afterAll
+invariant-all [] run kept allowed = kept
+invariant-all (lent ∷ later) run kept allowed = invariant-all later (afterCall run lent) (invariant-call run kept lent (allowed .0)) (allowed .1)

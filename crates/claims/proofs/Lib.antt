@@ -1,0 +1,7 @@
+-- The invariant over lists of calls, and the claims from it.
+pub mod Out
+pub mod Invariant
+pub mod Demand3
+pub mod ByHistory
+pub mod Progress
+pub mod Claims

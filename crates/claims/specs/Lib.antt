@@ -1,0 +1,4 @@
+-- What holds after every list of calls, and all of it in one record.
+pub mod ByHistory
+pub mod Progress
+pub mod Claims

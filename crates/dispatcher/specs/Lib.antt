@@ -1,3 +1,0 @@
--- What the contracts of the calls say.
-pub mod Gives
-pub mod Heard

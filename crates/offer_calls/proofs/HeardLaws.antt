@@ -1,0 +1,109 @@
+-- Once the first five questions pass, the state and the order decide: what the answer to the offer says is what the call gives.
+use mathlib.Core.Path.{_≡_, refl, sym, ap, _∙_}
+use mathlib.Core.Logic.{inl}
+use mathlib.Core.Bool.{Bool, true, false, cond}
+use mathlib.Core.List.{List, [], _∷_, _++_, map}
+use Prim.Native.Nat.{ℕ, _≤_}
+use native.Mathlib.Omega.{arith}
+use lib.ListN.{length, length-append, length-map}
+use borrow.Author.Tests.{eq-eqb, ne-eqb}
+use Rattle.model.specs.declared.Block.{Block}
+use Rattle.model.specs.Limits.{maxLive}
+use Rattle.model.specs.Lists.{isZero}
+use Rattle.model.specs.Bytes.{fourBytes, bits32}
+use Rattle.model.specs.State.{State}
+use Rattle.model.specs.Layout.{imageSize, blockSize, replySize}
+use Rattle.model.specs.Image.{decode, encode}
+use Rattle.model.specs.Questions.{firstNo, Answer, replyBytes}
+use Rattle.model.specs.Admission.{blockOf, arrival, joinedBy, joinedLive, accept, blockLengthQuestion, blockQuestions, stateQuestions, orderQuestions}
+use Rattle.model.specs.Calls.{replyQuestion, lengthQuestion, imageQuestions, offerNumber, offerCall, quoteCall, result}
+use Rattle.image.specs.declared.Pipeline.{Pipeline}
+use Rattle.image.specs.Pipeline.{padded, listed}
+use Rattle.image.proofs.TwoForms.{listed-padded}
+use Rattle.offers.specs.Considered.{Fitting}
+use Rattle.offers.proofs.Questions.{considered}
+use Rattle.admission.specs.declared.decision.Decision.{Decision}
+use Rattle.admission.specs.declared.decision.Decision.the-variants.{Accepted, Costs, DueIn, DueTick, Tickets, Room, Late, Delaying}
+use Rattle.admission.specs.declared.offer.Offered.{Offered}
+use Rattle.admission.specs.Decision.{numberOf, answerOf}
+use Rattle.admission.specs.Answers.{Decides, Offers}
+use Rattle.call_results.specs.Gives.{Gives}
+use Rattle.offer_calls.specs.Heard.{Heard}
+
+-- The reply's bytes, as they are put.
+abbrev pub put : ℕ → Answer → List ℕ
+put number a = fourBytes number ++ fourBytes (a .ticket) ++ fourBytes (a .tick) ++ fourBytes (bits32 (a .margin))
+
+never-one : (d : Decision) → numberOf d ≡ 1 → ⊥
+never-one (Accepted f) e = omega arith
+never-one Costs e = omega arith
+never-one DueIn e = omega arith
+never-one DueTick e = omega arith
+never-one Tickets e = omega arith
+never-one Room e = omega arith
+never-one (Late m) e = omega arith
+never-one (Delaying m) e = omega arith
+
+same : {A : Type 0} (t : Bool) (x : A) → x ≡ cond t x x
+same true x = refl
+same false x = refl
+
+-- The answer to an offer, about the state and the order that the bytes say.
+pub about : {t s : State} {b c : Block} (o : Offered) → t ≡ s → c ≡ b → Offers (blockQuestions (t .n) c ++ stateQuestions t c) t c o → Offers (blockQuestions (s .n) b ++ stateQuestions s b) s b o
+about o e f r = rw (← e, ← f) r
+
+-- An accepted state has at most 32 live orders.
+pub room-left : {s : State} {b : Block} {q : Pipeline} → Fitting s b → q ≡ padded (accept s b) → q .live ≤ maxLive
+unfolding padded accept joinedLive
+room-left {s} {b} f e =
+    omega (arith, ap (λ (q : Pipeline). q .live) e, length-append (map (joinedBy b) (s .orders)) (arrival s b ∷ []), length-map (s .orders) (joinedBy b), f .room)
+
+module _ (image block reply : List ℕ) (h : Heard image block reply) where
+  number-is : firstNo (blockQuestions (decode image .n) (blockOf block) ++ stateQuestions (decode image) (blockOf block)) ≡ offerNumber image block reply
+  unfolding offerNumber firstNo replyQuestion lengthQuestion imageQuestions orderQuestions blockLengthQuestion
+  number-is =
+      rw (
+        eq-eqb (length reply) replySize (h .usable .reply-whole),
+        eq-eqb (length image) imageSize (h .usable .image-whole),
+        h .usable .image-marked,
+        h .usable .image-sound,
+        eq-eqb (length block) blockSize (h .block-whole),
+      )
+
+  module _ (d : Decision) (r : Decides (blockQuestions (decode image .n) (blockOf block) ++ stateQuestions (decode image) (blockOf block)) (decode image) (blockOf block) d) where
+    is : numberOf d ≡ offerNumber image block reply
+    is = r .number-is ∙ number-is
+
+    pub quote-gives : Gives (quoteCall image block reply) (numberOf d) image (put (numberOf d) (answerOf 0 d))
+    unfolding quoteCall result replyBytes
+    quote-gives =
+        record {
+          number-is = is;
+          image-is = same (isZero (offerNumber image block reply)) image;
+          reply-is = rw (← is, ne-eqb (numberOf d) 1 (never-one d), r .quoted);
+        }
+
+    pub offer-declined : (numberOf d ≡ 0 → ⊥) → Gives (offerCall image block reply) (numberOf d) image (put (numberOf d) (answerOf (decode image .next) d))
+    unfolding offerCall result replyBytes
+    offer-declined some =
+        record {
+          number-is = is;
+          image-is = rw (← is, ne-eqb (numberOf d) 0 some);
+          reply-is = rw (← is, ne-eqb (numberOf d) 1 (never-one d), r .offered);
+        }
+
+    module _ (done : numberOf d ≡ 0) where
+      pub offer-done : Gives (offerCall image block reply) (numberOf d) (encode (accept (decode image) (blockOf block))) (put (numberOf d) (answerOf (decode image .next) d))
+      unfolding offerCall result replyBytes
+      offer-done =
+          record {
+            number-is = is;
+            image-is = rw (← is, done);
+            reply-is = rw (← is, ne-eqb (numberOf d) 1 (never-one d), r .offered);
+          }
+
+      pub image-is : {t : State} {c : Block} {q : Pipeline} → t ≡ decode image → c ≡ blockOf block → q ≡ padded (accept t c) → encode (listed q) ≡ encode (accept (decode image) (blockOf block))
+      image-is e f g = ap encode (ap listed g ∙ listed-padded (accept _ _)) ∙ rw (e, f)
+
+      pub fitting : Fitting (decode image) (blockOf block)
+      fitting = considered image block reply (inl (sym is ∙ done)) .fitting

@@ -1,0 +1,3 @@
+-- Laws of the calls.
+pub mod OfferLaws
+pub mod HeardLaws

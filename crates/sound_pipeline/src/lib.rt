@@ -1,0 +1,1 @@
+// Theorems only: the state of a sound image, as code carries it.

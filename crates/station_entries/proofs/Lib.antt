@@ -1,0 +1,2 @@
+-- Loops over the stations.
+pub mod StationLaws
