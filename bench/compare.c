@@ -1,15 +1,15 @@
-/* compare LIST..: quote and offer of the library (libdispatcher.a) against the plain C of counter.c, byte for byte, on the same calls.
+/* compare LIST..: quote, offer and advance of the library (libdispatcher.a) against the plain C of counter.c and advance.c, byte for byte, on the same calls.
  *
  * A LIST is what the second simulator wrote by `gen calls` or `gen images` (tests/second-simulator/README.md): images, and calls with their number, their reply
- * and a hash of the image after them. For each quote and offer, library and C get the same image, order block and reply buffer, and must give the same number,
- * reply and image, all bytes of it; and these must be what the simulator wrote. An open is made by the library and an advance by tick.c; both must be
- * the simulator's.
+ * and a hash of the image after them. For each of these calls, library and C get the same image, order block and reply buffer, and must give the same number,
+ * reply and image, all bytes of it; and these must be what the simulator wrote. An open is made by the library alone, and must be the simulator's.
  *
- * The first difference ends the program with status 1, and so do lists that show too little: each number from 0 to 12 of quote and of offer, and done offers at
- * every number of live orders from 0 to 31. */
+ * The first difference ends the program with status 1, and so do lists that show too little: each number of each of these calls, done offers at every number of
+ * live orders from 0 to 31, done advances at every number from 0 to 32, and orders out at every number from 1 to 32. */
+#include "advance.h"
 #include "counter.h"
 #include "dispatcher.h"
-#include "tick.h"
+#include "layout.h"
 
 #include <stdio.h>
 #include <stdlib.h>
@@ -25,7 +25,7 @@ enum { OPEN, QUOTE, OFFER, ADVANCE, CALLS };
 static const char *const names[CALLS] = {"open", "quote", "offer", "advance"};
 
 static unsigned long seen[CALLS][15]; /* by number */
-static unsigned long done_at[ORDERS]; /* done offers by live orders before */
+static unsigned long offers_at[ORDERS + 1], advances_at[ORDERS + 1], outs_at[ORDERS + 1]; /* done offers, done advances, orders out, by live orders before */
 static unsigned long images;
 
 static const char *file_name;
@@ -97,15 +97,23 @@ static void print_outcome(const char *who, const struct outcome *o)
 static struct bytes image, argument;
 static struct outcome library, c, told;
 
-static void compare_order_call(int call)
+static void compare_call(int call)
 {
     library.image = c.image = image;
-    if (call == QUOTE) {
-        library.number = dispatcher_quote(library.image.at, image.length, argument.at, argument.length, library.reply.at, library.reply.length);
-        c.number = counter_quote(c.image.at, image.length, argument.at, argument.length, c.reply.at, c.reply.length);
-    } else {
-        library.number = dispatcher_offer(library.image.at, image.length, argument.at, argument.length, library.reply.at, library.reply.length);
-        c.number = counter_offer(c.image.at, image.length, argument.at, argument.length, c.reply.at, c.reply.length);
+    uint8_t *a = library.image.at, *b = c.image.at, *reply_a = library.reply.at, *reply_b = c.reply.at;
+    size_t reply_length = library.reply.length;
+    switch (call) {
+    case QUOTE:
+        library.number = dispatcher_quote(a, image.length, argument.at, argument.length, reply_a, reply_length);
+        c.number = counter_quote(b, image.length, argument.at, argument.length, reply_b, reply_length);
+        break;
+    case OFFER:
+        library.number = dispatcher_offer(a, image.length, argument.at, argument.length, reply_a, reply_length);
+        c.number = counter_offer(b, image.length, argument.at, argument.length, reply_b, reply_length);
+        break;
+    default:
+        library.number = dispatcher_advance(a, image.length, reply_a, reply_length);
+        c.number = plain_advance(b, image.length, reply_b, reply_length);
     }
     if (library.number != c.number || !same(&library.reply, &c.reply) || !same(&library.image, &c.image)) {
         printf("%s, line %lu: library and C differ in this %s:\n", file_name, line_number, names[call]);
@@ -116,13 +124,18 @@ static void compare_order_call(int call)
         exit(1);
     }
     if (call == OFFER && c.number == 0)
-        done_at[image.at[6]]++;
+        offers_at[image.at[6]]++;
+    if (call == ADVANCE && c.number == 0) {
+        advances_at[image.at[6]]++;
+        outs_at[image.at[6]] += get4(c.reply.at + 4) != 0;
+    }
     image = c.image;
 }
 
 static void one_call(int call, char *rest)
 {
     /* ARGUMENT REPLY-BEFORE -> NUMBER REPLY-AFTER HASH; advance has no argument. */
+    argument.length = 0;
     if (call != ADVANCE)
         read_bytes(&argument, strtok(rest, " "));
     read_bytes(&library.reply, strtok(call == ADVANCE ? rest : NULL, " "));
@@ -136,26 +149,13 @@ static void one_call(int call, char *rest)
     if (told.number > 14 || told_hash == NULL)
         fail("not of the form");
 
-    struct cabinet cabinet;
-    switch (call) {
-    case ADVANCE:
-        if (told.number == 0) {
-            decode(&cabinet, image.at);
-            tick(&cabinet);
-            encode(image.at, &cabinet);
-        }
-        c.number = told.number;
-        c.reply = told.reply;
-        break;
-    case OPEN:
+    if (call == OPEN)
         /* The number of stations is written with its high digit first. */
         c.number = dispatcher_open(image.at, image.length,
                                    (uint32_t)argument.at[0] << 24 | (uint32_t)argument.at[1] << 16 | (uint32_t)argument.at[2] << 8 | argument.at[3],
                                    c.reply.at, c.reply.length);
-        break;
-    default:
-        compare_order_call(call);
-    }
+    else
+        compare_call(call);
     if (c.number != told.number || !same(&c.reply, &told.reply) || hash(&image) != strtoull(told_hash, NULL, 16)) {
         printf("%s, line %lu: the simulator gives another number, reply or image for this %s\n", file_name, line_number, names[call]);
         exit(1);
@@ -192,6 +192,25 @@ static void one_list(void)
     fclose(file);
 }
 
+/* Whether the call has this number. */
+static int gives(int call, int number)
+{
+    return call == ADVANCE ? number <= 4 || number == 13 : number <= 12;
+}
+
+/* How often something was seen at so many live orders; 1 if it was never seen at some number of them. */
+static int lacks(const char *what, const unsigned long at[ORDERS + 1], int from, int to)
+{
+    int lacking = 0;
+    printf("%s at %d to %d live orders:", what, from, to);
+    for (int live = from; live <= to; live++) {
+        printf(" %lu", at[live]);
+        lacking |= at[live] == 0;
+    }
+    printf("\n");
+    return lacking;
+}
+
 int main(int argc, char **argv)
 {
     unsigned long calls = 0, declined_images = 0;
@@ -201,29 +220,27 @@ int main(int argc, char **argv)
         one_list();
     }
 
-    printf("%6s", "number");
-    for (int number = 0; number <= 12; number++)
+    printf("%7s", "number");
+    for (int number = 0; number <= 13; number++)
         printf(" %6d", number);
-    for (int call = QUOTE; call <= OFFER; call++) {
-        printf("\n%6s", names[call]);
-        for (int number = 0; number <= 12; number++) {
+    for (int call = QUOTE; call <= ADVANCE; call++) {
+        printf("\n%7s", names[call]);
+        for (int number = 0; number <= 13; number++) {
             printf(" %6lu", seen[call][number]);
             calls += seen[call][number];
-            lacking |= seen[call][number] == 0;
+            lacking |= gives(call, number) != (seen[call][number] > 0);
             declined_images += number >= 2 && number <= 4 ? seen[call][number] : 0;
         }
     }
-    printf("\ndone offers at 0 to %d live orders:", ORDERS - 1);
-    for (int live = 0; live < ORDERS; live++) {
-        printf(" %lu", done_at[live]);
-        lacking |= done_at[live] == 0;
-    }
     printf("\n");
+    lacking |= lacks("done offers", offers_at, 0, 31);
+    lacking |= lacks("done advances", advances_at, 0, 32);
+    lacking |= lacks("orders out", outs_at, 1, 32);
     if (lacking) {
         printf("the lists show too little: a number or a number of live orders is missing\n");
         return 1;
     }
-    printf("library and C gave the same number, reply and image for %lu quotes and offers, %lu of them on damaged images, in %d lists with %lu images\n",
+    printf("library and C gave the same number, reply and image for %lu calls, %lu of them on damaged images, in %d lists with %lu images\n",
            calls, declined_images, argc - 1, images);
     return 0;
 }

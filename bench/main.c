@@ -2,24 +2,25 @@
  *
  *   decode and encode an image   probe_recode of libprobe.a against codec.c, which lends its struct by a pointer: the fastest way to write it in C. The library
  *                                carries the state by value (document 01: "The core carries its state by value");
- *   quote and offer              libdispatcher.a against counter.c, which works on the bytes of the image.
+ *   quote and offer              libdispatcher.a against counter.c, which works on the bytes of the image;
+ *   advance                      libdispatcher.a against advance.c, which does so, too.
  *
- * First both must give the same bytes on the images that they are timed on, and the codec on random bytes besides. (compare.c has compared quote and offer on
- * lists of the second simulator before.) Then both are timed in one run: rounds of the one and of the other in turn, on each of the images in turn, and the best
- * round of each counts. A machine that is busy or changes its speed does the same to both, and to all images. The time of either also depends, by up to a fifth,
- * on where the stack lies beside the images, modulo 4,096 bytes, and that differs from run to run. So both are timed with the stack at 64 depths, spread over
- * 4,096 bytes, and the mean counts.
+ * First both must give the same bytes on the images that they are timed on, and the codec on random bytes besides. (compare.c has compared the calls on lists
+ * of the second simulator before.) Then both are timed in one run: rounds of the one and of the other in turn, on each of the images in turn, and the best
+ * round of each counts. A machine that is busy or changes its speed does the same to both, and to all images. The time of either also depends, by up to a
+ * fifth, on where the stack lies beside the images, modulo 4,096 bytes, and that differs from run to run. So both are timed with the stack at 64 depths,
+ * spread over 4,096 bytes, and the mean counts.
  *
- * An offer that is done changes the image, so all copies are put back after every 8 offers. Putting back is not in the time, and the time of reading the clock
- * around the 8 offers is taken off.
+ * An offer or an advance that is done changes the image, so all copies are put back after every 8 calls. Putting back is not in the time, and the time of
+ * reading the clock around the 8 calls is taken off.
  *
  * probe_recode also tests the length and the live count at its entry. These two comparisons cost next to nothing beside 2,128 bytes read and written, and
  * are not taken off. */
 #define _POSIX_C_SOURCE 199309L
+#include "advance.h"
 #include "codec.h"
 #include "counter.h"
 #include "dispatcher.h"
-#include "tick.h"
 
 #include <stdio.h>
 #include <stdlib.h>
@@ -67,10 +68,22 @@ static uint32_t c_offer(uint8_t *image)
     return counter_offer(image, IMAGE_SIZE, order, ORDER_SIZE, reply, REPLY_SIZE);
 }
 
-/* An image to time on, with so many live orders; for quote and offer also the block of the next order, and the number that is given. */
+static uint32_t library_advance(uint8_t *image)
+{
+    return dispatcher_advance(image, IMAGE_SIZE, reply, REPLY_SIZE);
+}
+
+static uint32_t c_advance(uint8_t *image)
+{
+    return plain_advance(image, IMAGE_SIZE, reply, REPLY_SIZE);
+}
+
+/* An image to time on, with so many live orders, and the number that is given; for quote and offer also the block of the next order, and for advance what
+ * happens in the tick. */
 struct subject {
     int live;
     uint32_t number;
+    const char *happens;
     uint8_t image[IMAGE_SIZE], order[ORDER_SIZE];
 };
 
@@ -129,16 +142,43 @@ static void counter_image(uint8_t *image, int live)
     for (int i = 0; i < live; i++) {
         make_order(i);
         uint32_t number = c_offer(image);
-        decode(&c, image);
         for (int k = 0; k < 600 / live; k++)
-            tick(&c);
-        encode(image, &c);
-        if (number != 0 || c.live != i + 1) {
-            printf("order %d of %d: number %lu, %d live after it\n", i, live, (unsigned long)number, c.live);
+            number += c_advance(image);
+        if (number != 0 || image[6] != i + 1) {
+            printf("order %d of %d: number %lu, %d live after it\n", i, live, (unsigned long)number, image[6]);
             exit(1);
         }
     }
     make_order(live);
+}
+
+/* For advance, an image of 8 stations with so many live orders, as many at each station, the earlier ones further on. The stations are idle, or each serves
+ * the first of its orders: stations 1 to 7 with `left` ticks to go, and station 8 with `last_left`. */
+static void tick_image(uint8_t *image, int live, uint16_t left, uint16_t last_left)
+{
+    struct cabinet c;
+    memset(&c, 0, sizeof c);
+    c.n = 8;
+    c.live = (uint8_t)live;
+    c.clock = 123456789;
+    c.next = 1000 + (uint32_t)live;
+    for (int i = live - 1; i >= 0; i--) {
+        struct order *o = &c.orders[i];
+        o->ticket = 1000 + (uint32_t)i;
+        o->accepted = c.clock - 1000 + (uint32_t)i;
+        o->due = o->accepted + 60000;
+        o->sum = 200 * (uint32_t)live;
+        o->station = (uint8_t)(8 - 8 * i / live);
+        for (int j = 0; j < STATIONS; j++) {
+            o->ranks[j] = (uint8_t)(37 * i + 11 * j);
+            o->costs[j] = (uint16_t)(50 + (37 * i + 61 * j) % 151);
+            o->maxima[j] = 200;
+        }
+        struct service *s = &c.services[o->station - 1];
+        s->left = o->station < 8 ? left : last_left;
+        s->ticket = s->left > 0 ? o->ticket : 0;
+    }
+    encode(image, &c);
 }
 
 /* Both give this number, and leave the same image and the same reply. */
@@ -206,7 +246,7 @@ static double round_at(size_t depth, work *call, const uint8_t *image, int calls
 #define DEPTHS 64
 #define ROUNDS 60
 #define CALLS 256
-#define SUBJECTS 6 /* at most */
+#define SUBJECTS 9 /* at most */
 
 /* Nanoseconds for one call: those of the library and those of C. */
 struct times {
@@ -245,7 +285,8 @@ static void print_times(const char *what, const struct times t[], const struct s
     printf("\n%s\n%5s %7s %12s %12s %8s\n", what, "live", "number", "library ns", "C ns", "ratio");
     for (int k = 0; k < count; k++) {
         double ratio = t[k].library / t[k].c;
-        printf("%5d %7lu %12.1f %12.1f %8.2f\n", subjects[k].live, (unsigned long)subjects[k].number, t[k].library, t[k].c, ratio);
+        printf("%5d %7lu %12.1f %12.1f %8.2f", subjects[k].live, (unsigned long)subjects[k].number, t[k].library, t[k].c, ratio);
+        printf("%s%s\n", subjects[k].happens != NULL ? "  " : "", subjects[k].happens != NULL ? subjects[k].happens : "");
         worst = ratio > worst ? ratio : worst;
     }
     fflush(stdout);
@@ -296,6 +337,44 @@ static void counter(const char *what, work *library, work *c, int batch)
            (t31->library - t16->library) / 15, (t16->c - t0->c) / 16, (t31->c - t16->c) / 15);
 }
 
+static void advance(void)
+{
+    static const struct {
+        int live;
+        uint16_t left, last_left;
+        const char *happens;
+        int out; /* whether an order is */
+    } ticks[SUBJECTS] = {
+        {0, 0, 0, "nothing", 0},
+        {16, 40, 40, "8 in service, none leaves", 0},
+        {16, 0, 0, "8 start", 0},
+        {16, 1, 40, "8 in service, 7 go on", 0},
+        {16, 1, 1, "8 in service, 7 go on, 1 is out", 1},
+        {32, 40, 40, "8 in service, none leaves", 0},
+        {32, 0, 0, "8 start", 0},
+        {32, 1, 40, "8 in service, 7 go on", 0},
+        {32, 1, 1, "8 in service, 7 go on, 1 is out", 1},
+    };
+    static struct subject subjects[SUBJECTS];
+    struct times t[SUBJECTS];
+
+    for (int k = 0; k < SUBJECTS; k++) {
+        subjects[k].live = ticks[k].live;
+        subjects[k].happens = ticks[k].happens;
+        tick_image(subjects[k].image, ticks[k].live, ticks[k].left, ticks[k].last_left);
+        compare(library_advance, c_advance, subjects[k].image, 0, "advance", k);
+        if ((get4(reply + 4) != 0) != ticks[k].out) {
+            printf("advance %d: ticket %lu is out\n", k, (unsigned long)get4(reply + 4));
+            exit(1);
+        }
+    }
+    take_times(t, library_advance, c_advance, subjects, SUBJECTS, COPIES);
+    print_times("advance, 8 stations; the image is put back between calls, outside of the time", t, subjects, SUBJECTS);
+    const struct times *t0 = &t[0], *t16 = &t[1], *t32 = &t[5];
+    printf("for each live order more, from 0 to 16 and from 16 to 32, none leaving: library %.2f and %.2f ns, C %.2f and %.2f ns\n",
+           (t16->library - t0->library) / 16, (t32->library - t16->library) / 16, (t16->c - t0->c) / 16, (t32->c - t16->c) / 16);
+}
+
 int main(int argc, char **argv)
 {
     double most = argc > 1 ? atof(argv[1]) : 1e18;
@@ -303,8 +382,9 @@ int main(int argc, char **argv)
     printf("times: best of %d rounds of %d calls each, mean over %d depths of the stack\n", ROUNDS, CALLS, DEPTHS);
     codec();
     counter("quote, 8 stations: accepted (0) below 32 live orders, declined by 10 at 32", library_quote, c_quote, CALLS);
-    counter("offer, 8 stations: accepted (0) below 32 live orders, declined by 10 at 32; the image is put back between calls, outside of the time", library_offer,
-            c_offer, COPIES);
+    counter("offer, 8 stations: accepted (0) below 32 live orders, declined by 10 at 32; the image is put back between calls, outside of the time",
+            library_offer, c_offer, COPIES);
+    advance();
     if (worst > most)
         printf("above %.2f\n", most);
     printf("worst ratio %.2f\n", worst);

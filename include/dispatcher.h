@@ -3,8 +3,9 @@
  * Link with libdispatcher.a. The library is for x86-64 with the System V calling convention. It has no state of its own and takes no memory from
  * the heap. Of the C library it uses at most memcpy, memmove, memset and memcmp.
  *
- * A cabinet is a row of 1 to 8 stations, which every order visits in turn. Its clock counts ticks of 0.1 s. Each order that is accepted gets a ticket,
- * a number from 1 upward. It is live from then until it leaves the last station.
+ * A cabinet is a row of 1 to 8 stations, which every order visits in turn. Its clock counts ticks of 0.1 s, and dispatcher_advance alone moves it: the
+ * firmware calls it once for each tick. Each order that is accepted gets a ticket, a number from 1 upward. It is live from then until it leaves the last
+ * station.
  *
  * THE IMAGE
  *
@@ -43,9 +44,14 @@
  *     the largest of its station costs, for each order of the company, added up,
  *     plus, for each station but the last, the largest cost that any order of the company has there.
  *
- * An order is out by its acceptance tick plus its delay sum. Its margin is its due tick minus that total: the ticks that it has to spare, below zero if it
- * would be late. Two stations, and an order of costs 2 and 3: the delay sum is 3 + 2 = 5. With a second order of costs 1 and 2 it is 3 + 2 + 2 = 7 for
- * both of them.
+ * Two stations, and an order of costs 2 and 3: its delay sum is 3 + 2 = 5. With a second order of costs 1 and 2 it is 3 + 2 + 2 = 7 for both of them.
+ *
+ * Every order that is accepted is out by its acceptance tick plus its delay sum, and by its due tick, whatever is offered after it. This holds by the
+ * cabinet's clock, for every image that dispatcher_open made and that only calls of this header have changed. It holds by the time of day if
+ * dispatcher_advance is called once for each tick, every 0.1 s.
+ *
+ * The margin of an order is its due tick less the total of its acceptance tick and its delay sum: the ticks that it has to spare, below zero if it would
+ * be late.
  *
  * THE NUMBER
  *
@@ -119,6 +125,7 @@ extern "C" {
 #define DISPATCHER_FULL 10            /* DISPATCHER_MAX_LIVE orders are live */
 #define DISPATCHER_LATE 11            /* the order would be late itself */
 #define DISPATCHER_DELAYS_OTHERS 12   /* the order would be on time, and make a live order late */
+#define DISPATCHER_CLOCK_ENDED 13     /* the clock stands at DISPATCHER_LAST_TICK and goes no further */
 #define DISPATCHER_BAD_STATIONS 14    /* the number of stations is not 1 to DISPATCHER_MAX_STATIONS */
 
 /* Opens a cabinet: writes the image of a cabinet of `stations` stations whose clock stands at tick 0, which has no orders, and whose first
@@ -181,6 +188,37 @@ uint32_t dispatcher_quote(const uint8_t *image, size_t image_len, const uint8_t 
  * After DISPATCHER_LATE and DISPATCHER_DELAYS_OTHERS the margin is that same smallest margin, as it would be with the order accepted, and ticket and tick
  * are 0. It may be that of another order: also where the order itself is late, a live order may be later still. */
 uint32_t dispatcher_offer(uint8_t *image, size_t image_len, const uint8_t *order, size_t order_len, uint8_t *reply, size_t reply_len);
+
+/* Lets one tick pass in the cabinet. The firmware calls it once in every 0.1 s, also while no order is live. In this order:
+ *
+ *     1. Each idle station at which orders wait starts one of them: the one with the smallest rank there, and of equal ranks the one with the smaller ticket.
+ *     2. The clock goes up by one, and each order in service has one tick less to go.
+ *     3. An order with nothing to go leaves its station. It waits at the next; after the last station it is out, and no longer live.
+ *
+ * So an order accepted at tick 5 may start in the advance from 5 to 6, and one that leaves station 1 as the clock reaches 7 may start at station 2 in the
+ * advance from 7 to 8. No order in service is stopped for another. At most one order is out in a tick.
+ *
+ *     image, image_len   the image; if the call is done it is changed
+ *     reply, reply_len   the reply to be written
+ *
+ * Returns the first of these that fits:
+ *
+ *     DISPATCHER_BAD_REPLY_LENGTH   (1)  reply_len is not 16. Nothing was written.
+ *     DISPATCHER_BAD_IMAGE_LENGTH   (2)  image_len is not 2,128.
+ *     DISPATCHER_BAD_MARK           (3)  the image does not begin with the mark and version that dispatcher_open writes.
+ *     DISPATCHER_BAD_IMAGE          (4)  the image contradicts itself.
+ *     DISPATCHER_CLOCK_ENDED       (13)  the clock stands at 4,000,000,000.
+ *     DISPATCHER_DONE               (0)  one tick has passed, and the image was changed.
+ *
+ * An image that dispatcher_open made, that only calls of this header have changed, and that is lent whole, never gets 2, 3 or 4, nor 13 while an order
+ * is live: every order is out by the clock's last tick.
+ *
+ * After DISPATCHER_DONE the reply holds
+ *
+ *     ticket   that of the order that is out with this tick, or 0 if none is;
+ *     tick     the clock, as it stands now;
+ *     margin   0. */
+uint32_t dispatcher_advance(uint8_t *image, size_t image_len, uint8_t *reply, size_t reply_len);
 
 #ifdef __cplusplus
 }

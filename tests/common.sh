@@ -57,3 +57,8 @@ build_simulator() {
     (cd "$simulator" && cargo build --offline --locked --release -q --target-dir target/harness) || die "the second simulator is not built"
     flock -u 9
 }
+
+# harness MODE ..: the simulator's harness on libdispatcher.a, after build_simulator and static_library dispatcher. No call is left to the simulator.
+harness() {
+    env -u DISPATCHER_WITHOUT "$simulator/run-harness.sh" 0 "$PWD/target/staticlib" "$@"
+}

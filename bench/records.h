@@ -1,0 +1,61 @@
+/* Records of an image where they stand, and their rows of eight numbers, for counter.c and advance.c. Rows are gone through without a branch, so that gcc can
+ * make a few vector instructions of each (bench/run says what it has to be told for that). */
+#ifndef RECORDS_H
+#define RECORDS_H
+
+#include "layout.h"
+
+#define MOST_COST 6000
+#define MOST_DUE_IN 60000
+#define LAST_TICK 4000000000u
+
+/* Where the fields of a record are. */
+enum { TICKET = 0, ACCEPTED = 4, DUE = 8, SUM = 12, STATION = 16, RANKS = 20, COSTS = 28, MAXIMA = 44, TAIL = 60 };
+
+/* What may stand at each place of a row of eight in a cabinet of N stations. */
+struct limits {
+    uint16_t least[STATIONS];   /* of costs: 1, beyond N 0 */
+    uint16_t most[STATIONS];    /* of costs and maxima: 6,000, beyond N 0 */
+    uint16_t counted[STATIONS]; /* all ones before N, where maxima count in a delay sum; 0 from N on */
+};
+
+static inline struct limits limits_for(uint16_t n)
+{
+    struct limits l;
+    for (uint16_t j = 0; j < STATIONS; j++) {
+        l.least[j] = j < n ? 1 : 0;
+        l.most[j] = j < n ? MOST_COST : 0;
+        l.counted[j] = j + 1 < n ? 0xffff : 0;
+    }
+    return l;
+}
+
+static inline uint16_t larger(uint16_t a, uint16_t b)
+{
+    return a > b ? a : b;
+}
+
+static inline uint16_t largest(const uint16_t row[STATIONS])
+{
+    uint16_t most = 0;
+    for (int j = 0; j < STATIONS; j++)
+        most = larger(most, row[j]);
+    return most;
+}
+
+/* The second part of a delay sum. */
+static inline uint32_t counted(const uint16_t maxima[STATIONS], const struct limits *l)
+{
+    uint32_t sum = 0;
+    for (int j = 0; j < STATIONS; j++)
+        sum += maxima[j] & l->counted[j];
+    return sum;
+}
+
+/* Eight ranks as one number; those beyond N are 0. */
+static inline int ranks_fit(uint64_t ranks, uint32_t n)
+{
+    return n == STATIONS || ranks >> 8 * n == 0;
+}
+
+#endif
