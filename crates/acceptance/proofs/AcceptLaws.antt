@@ -18,6 +18,7 @@ use Rattle.roundtrip.proofs.Rows.{getD-in}
 use Rattle.offers.specs.Considered.{Fitting}
 use Rattle.image.specs.declared.Pipeline.{Pipeline}
 use Rattle.image.specs.Pipeline.{unused, listed, padded}
+use Rattle.offers.proofs.Accept.{accept-length}
 use Rattle.sound_pipeline.specs.SoundPipeline.{SoundPipeline}
 use Rattle.sound_pipeline.proofs.Carried.{live-is}
 use Rattle.admission.proofs.PipelineLaws.{sums-fit}
@@ -72,8 +73,7 @@ module _ {p : Pipeline} (ok : SoundPipeline p) (b : Block) (room : length (liste
   joined-length = length-map (listed p .orders) (joinedBy b) ∙ sym (live-is ok)
 
   accepted-length : length (accept (listed p) b .orders) ≡ p .live + 1
-  unfolding accept
-  accepted-length = length-append (joinedLive (listed p) b) (arrival (listed p) b ∷ []) ∙ ap (λ (k : ℕ). k + 1) joined-length
+  accepted-length = accept-length (listed p) b ∙ ap (λ (k : ℕ). k + 1) (sym (live-is ok))
 
   laid : set (map (joinedBy b) (take (p .live) (p .orders)) ++ drop (p .live) (p .orders)) (p .live) (arrival (listed p) b) ≡ accept (listed p) b .orders ++ replicate (maxLive - length (accept (listed p) b .orders)) unused
   unfolding listed joinedLive accept

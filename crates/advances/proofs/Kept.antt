@@ -13,7 +13,7 @@ use Rattle.advances.specs.Kept.{AdvanceKeepsSound, AdvanceDeclineLeaves}
 use Rattle.advances.proofs.Exact.{advance-numbers}
 use Rattle.advances.proofs.Advance.{advance-byte-ranks, advance-sound}
 
-done-image : (image reply : List ℕ) → advanceNumber image reply ≡ 0 → advanceCall image reply .image ≡ encode (advance (decode image))
+pub done-image : (image reply : List ℕ) → advanceNumber image reply ≡ 0 → advanceCall image reply .image ≡ encode (advance (decode image))
 unfolding advanceCall result
 done-image image reply e = rw e
 

@@ -5,11 +5,11 @@ use mathlib.Core.Logic.{_⊎_, inl, inr, _≢_}
 use mathlib.Core.Bool.{Bool, true, false, not, _||_, true≢false}
 use mathlib.Core.List.{List, [], _∷_, List·Memᴰ·head, List·Memᴰ·tail, List·Memᴰ·cases-cons, List·Memᴰ·append-cases, List·Memᴰ·eq-of-singleton, Memᴰ·of-map, Memᴰ·map, Memᴰ·append-left, Memᴰ·append-right}
 use mathlib.Core.Option.{none}
-use Prim.Native.Nat.{ℕ, _+_, _≤_, _<_}
+use Prim.Native.Nat.{ℕ, _+_, _≤_}
 use native.Mathlib.Omega.{arith}
 use lib.ListN.{length, length-map}
 use lib.Dec.{ltb, eqb}
-use borrow.Author.Tests.{eq-eqb, ne-eqb, le-leb, lt-ltb}
+use borrow.Author.Tests.{eq-eqb, ne-eqb, le-leb}
 use Rattle.model.specs.declared.Block.{Block}
 use Rattle.model.specs.declared.Order.{Order}
 use Rattle.model.specs.Limits.{maxStations, lastTick}
@@ -38,8 +38,9 @@ use Rattle.offers.proofs.Questions.{Decided}
 use Rattle.offers.proofs.Questions as questions
 use Rattle.offers.proofs.Margins.{smallest-margin}
 use Rattle.offers.proofs.Exact.{margin-near, exact}
+use Rattle.advances.proofs.Exact.{advance-numbers}
 use Rattle.claims.specs.ByHistory.{tried, arriving, OnTime, Late, marginOf, Considered, Smallest, Judged, InStep, ByHistory}
-use Rattle.claims.proofs.Invariant.{Invariant, whole, is-marked, sound-image, says, offer-asks, advance-asks, invariant-started, invariant-all}
+use Rattle.claims.proofs.Invariant.{Invariant, whole, usable, says, offer-asks, advance-asks, invariant-started, invariant-all}
 use Rattle.claims.proofs.Demand3.{due-last, ahead, reply-tick}
 
 -- ---- numbers that are never given
@@ -116,15 +117,10 @@ module _ (run : Run) (kept : Invariant run) where
 
   -- 13 only where no order is live.
   thirteen : (reply : List ℕ) → advanceCall (run .image) reply .number ≡ 13 → (e : Entry) → e ∈ h .orders → e .out ≢ none
-  unfolding advanceCall result
+  unfolding advanceCall result stateOf
   thirteen reply e x m q =
-      never 13 (omega arith) (replyQuestion reply ∷ (ltb (stateOf h .clock) lastTick else 13) ∷ []) before-last (sym (advance-asks run kept reply) ∙ e)
-    where
-      low : stateOf h .clock < lastTick
-      low = unfold stateOf in omega (arith, ahead run kept x m q, due-last run kept x m q)
-
-      before-last : all (spares 13) (replyQuestion reply ∷ (ltb (stateOf h .clock) lastTick else 13) ∷ []) ≡ true
-      before-last = unfold all spares replyQuestion in rw (lt-ltb (stateOf h .clock) lastTick low)
+      let ended : h .clock ≡ lastTick = subst (λ (s : State). s .clock ≡ lastTick) (says run kept) (advance-numbers (run .image) reply .ended .only e .1) in
+      omega (arith, ended, ahead run kept x m q, due-last run kept x m q)
 
 -- ---- an offer or a quote made next
 module _ (run : Run) (kept : Invariant run) (block reply : List ℕ) where
@@ -200,7 +196,7 @@ module _ (run : Run) (kept : Invariant run) (block reply : List ℕ) where
   reconsidered : Considered (run .history) block reply → asked.Considered (run .image) block reply
   reconsidered c =
       record {
-        usable = record { reply-whole = c .reply-whole; image-whole = whole run kept; image-marked = is-marked run kept; image-sound = sound-image run kept };
+        usable = usable run kept reply (c .reply-whole);
         block-whole = c .block-whole;
         fitting = subst (λ (x : State). asked.Fitting x b) (sym (says run kept)) (fitting c);
       }

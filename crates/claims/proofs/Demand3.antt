@@ -6,16 +6,15 @@ use Prim.Native.Nat.{ℕ, zero, suc, _+_, _≤_, _<_}
 use native.Mathlib.Omega.{arith}
 use lib.ListN.{length}
 use lib.IntN.{pos}
-use borrow.Author.Tests.{eq-eqb, lt-ltb}
 use Rattle.model.specs.Limits.{lastTick}
 use Rattle.model.specs.Bytes.{word}
 use Rattle.model.specs.State.{State}
 use Rattle.model.specs.Tick.{advanceOut}
 use Rattle.model.specs.Layout.{replySize, replyTicketAt, replyTickAt}
 use Rattle.model.specs.Image.{decode}
-use Rattle.model.specs.Questions.{firstNo, Answer, replyBytes}
+use Rattle.model.specs.Questions.{Answer, replyBytes}
 use Rattle.model.specs.Admission.{blockOf, offerAnswer}
-use Rattle.model.specs.Calls.{result, replyQuestion, offerNumber, offerCall, advanceNumber, advanceAnswer, advanceCall, Call, opening, quoting, offering, advancing, perform}
+use Rattle.model.specs.Calls.{result, offerNumber, offerCall, advanceNumber, advanceAnswer, advanceCall, Call, opening, quoting, offering, advancing, perform}
 use Rattle.model.specs.History.{Entry, History, entryDue, entryBound, acceptIn, advanceIn, feed, outAt}
 use Rattle.model.specs.StateOf.{recordOf, stateOf}
 use Rattle.model.specs.Demand3.{Lent, Run, started, outcome, afterCall, afterAll, AllAllowed, InTime, Agrees, AllAgree, Demand3}
@@ -25,8 +24,9 @@ use Rattle.delay.proofs.Book.{length-accept}
 use Rattle.delay.proofs.DueTimes.{live-record, none-live, kept-live}
 use Rattle.roundtrip.specs.InRange.{wordLimit}
 use Rattle.roundtrip.proofs.Numbers.{word-of-four}
+use Rattle.advances.proofs.Exact.{advance-numbers}
 use Rattle.claims.proofs.Out.{advanced-clock, out-in-history}
-use Rattle.claims.proofs.Invariant.{Invariant, says, few, advance-asks, open-done, invariant-started, invariant-call, invariant-all}
+use Rattle.claims.proofs.Invariant.{Invariant, usable, says, few, open-done, invariant-started, invariant-call, invariant-all}
 
 -- ---- each accepted order
 module _ (run : Run) (kept : Invariant run) where
@@ -38,8 +38,8 @@ module _ (run : Run) (kept : Invariant run) where
   ahead e m q = kept-live (run .history) (kept .history) e m (none-live e q)
 
   pub advance-done : (reply : List ℕ) → length reply ≡ replySize → run .history .clock < lastTick → advanceCall (run .image) reply .number ≡ 0
-  unfolding advanceCall result
-  advance-done reply whole low = advance-asks run kept reply ∙ (unfold firstNo replyQuestion stateOf in rw (eq-eqb (length reply) replySize whole, lt-ltb (run .history .clock) lastTick low))
+  unfolding advanceCall result stateOf
+  advance-done reply whole low = advance-numbers (run .image) reply .done .if (usable run kept reply whole, rw (says run kept) low)
 
   pub in-time : (e : Entry) → e ∈ run .history .orders → InTime run e
   in-time e m =

@@ -2,13 +2,13 @@
 -- the clock shows and are live, so that tickets do not end. Every call that demand 3 allows keeps it.
 use mathlib.Core.Path.{_≡_, refl, sym, ap, subst, _∙_}
 use mathlib.Core.Logic.{_≢_}
-use mathlib.Core.Bool.{Bool, true, false}
+use mathlib.Core.Bool.{true, false}
 use mathlib.Core.List.{List, [], _∷_, _++_}
 use Prim.Native.Nat.{ℕ, zero, suc, _+_, _≤_, _<_}
 use native.Mathlib.Omega.{arith}
-use lib.ListN.{length, length-append, length-map}
-use lib.Dec.{ltb, eqb}
-use borrow.Author.Tests.{eq-eqb, le-leb, ne-eqb, ltb-true}
+use lib.ListN.{length}
+use lib.Dec.{ltb}
+use borrow.Author.Tests.{eq-eqb, le-leb, ne-eqb}
 use Rattle.model.specs.declared.Block.{Block}
 use Rattle.model.specs.declared.Order.{Order}
 use Rattle.model.specs.Limits.{maxStations, lastTick, lastTicket}
@@ -18,7 +18,7 @@ use Rattle.model.specs.Layout.{imageSize, replySize}
 use Rattle.model.specs.Image.{marked, decode, encode}
 use Rattle.model.specs.Soundness.{sound}
 use Rattle.model.specs.Questions.{Question, _else_, firstNo}
-use Rattle.model.specs.Admission.{blockOf, arrival, joinedBy, joinedLive, accept, orderQuestions}
+use Rattle.model.specs.Admission.{blockOf, arrival, joinedBy, accept, orderQuestions}
 use Rattle.model.specs.Calls.{result, replyQuestion, lengthQuestion, imageQuestions, openNumber, openCall, offerNumber, offerCall, advanceNumber, advanceCall, Call, opening, quoting, offering, advancing, perform}
 use Rattle.model.specs.History.{History, begun, acceptIn, advanceIn, feed}
 use Rattle.model.specs.StateOf.{stateOf}
@@ -28,6 +28,7 @@ use Rattle.delay.specs.Events.{MayAccept}
 use Rattle.delay.proofs.Book.{length-accept, same-clock}
 use Rattle.delay.proofs.DueTimes as due
 use Rattle.roundtrip.specs.SoundFacts.{SoundInRange}
+use Rattle.roundtrip.specs.Usable.{Usable}
 use Rattle.roundtrip.proofs.Written.{decode-encode, encode-length, encode-marked}
 use Rattle.roundtrip.proofs.Sound.{gives-sound}
 use Rattle.roundtrip.proofs.Fresh.{fresh-sound}
@@ -36,9 +37,12 @@ use Rattle.offers.specs.Exact.{InTime}
 use Rattle.offers.proofs.Questions.{eight-ranks, eight-costs}
 use Rattle.offers.proofs.Times.{time-says, live-say}
 use Rattle.offers.proofs.Exact.{exact}
-use Rattle.offers.proofs.Accept.{accept-sound}
+use Rattle.offers.proofs.Accept.{accept-length, accept-sound}
 use Rattle.offers.proofs.Kept.{done-image, decline-leaves, quote-gives-offer}
+use Rattle.advances.proofs.Exact.{advance-numbers}
 use Rattle.advances.proofs.Advance.{advance-sound}
+use Rattle.advances.proofs.Kept.{advance-decline-leaves}
+use Rattle.advances.proofs.Kept as advances
 use Rattle.claims.proofs.Out.{advanced-count, advanced-clock, kept-advance, state-advance, one-out}
 
 pub record Invariant (run : Run) : Type 0 where
@@ -61,11 +65,14 @@ module _ (run : Run) (kept : Invariant run) where
   pub whole : length (run .image) ≡ imageSize
   whole = ap (λ (l : List ℕ). length l) (kept .image-is) ∙ encode-length here (kept .is-sound .in-range)
 
-  pub is-marked : marked (run .image) ≡ true
+  is-marked : marked (run .image) ≡ true
   is-marked = ap marked (kept .image-is) ∙ encode-marked here
 
-  pub sound-image : sound (run .image) ≡ true
+  sound-image : sound (run .image) ≡ true
   sound-image = ap sound (kept .image-is) ∙ gives-sound here (kept .is-sound)
+
+  pub usable : (reply : List ℕ) → length reply ≡ replySize → Usable (run .image) reply
+  usable reply long = record { reply-whole = long; image-whole = whole; image-marked = is-marked; image-sound = sound-image }
 
   pub says : decode (run .image) ≡ here
   says = ap decode (kept .image-is) ∙ decode-encode here (kept .is-sound .in-range)
@@ -140,40 +147,25 @@ module _ (run : Run) (kept : Invariant run) (block reply : List ℕ) (done : off
   offered-state : SoundInRange (stateOf (acceptIn b h))
   offered-state = subst SoundInRange accepts (accept-sound (stateOf h) b (kept .is-sound) (passes .0) (passes .1) (passes .2) (eight-ranks block) (eight-costs block))
 
-  more : length (accept (stateOf h) b .orders) ≡ length (stateOf h .orders) + 1
-  unfolding accept joinedLive
-  more = length-append (joinedLive (stateOf h) b) (arrival (stateOf h) b ∷ []) ∙ ap (λ (k : ℕ). k + 1) (length-map (stateOf h .orders) (joinedBy b))
-
   pub invariant-offered : Invariant (record { image = offerCall (run .image) block reply .image; history = acceptIn b h })
   invariant-offered =
       record {
         history = due.kept-accept b h (kept .history) may;
         image-is = done-image (run .image) block reply done ∙ ap (λ (s : State). encode (accept s b)) (says run kept) ∙ ap encode accepts;
         is-sound = offered-state;
-        counted = omega (arith, length-accept b h, same-clock b h, kept .counted, ap (λ (s : State). length (s .orders)) accepts, more);
+        counted = omega (arith, length-accept b h, same-clock b h, kept .counted, ap (λ (s : State). length (s .orders)) accepts, accept-length (stateOf h) b);
       }
 
 -- ---- a done advance
-both-pass : (a b : Bool) → firstNo ((a else 1) ∷ (b else 13) ∷ []) ≡ 0 → (a ≡ true) × (b ≡ true)
-unfolding firstNo
-both-pass true true e = (refl, refl)
-both-pass true false e = absurd (omega arith)
-both-pass false b e = absurd (omega arith)
-
 module _ (run : Run) (kept : Invariant run) (reply : List ℕ) (done : advanceNumber (run .image) reply ≡ 0) where
-  advanced-image : advanceCall (run .image) reply .image ≡ encode (advance (decode (run .image)))
-  unfolding advanceCall result
-  advanced-image = rw done
-
   before-last : stateOf (run .history) .clock < lastTick
-  unfolding replyQuestion
-  before-last = ltb-true (stateOf (run .history) .clock) lastTick (both-pass (eqb (length reply) replySize) (ltb (stateOf (run .history) .clock) lastTick) (sym (advance-asks run kept reply) ∙ done) .1)
+  before-last = subst (λ (s : State). s .clock < lastTick) (says run kept) (advance-numbers (run .image) reply .done .only done .1)
 
   pub invariant-advanced : Invariant (record { image = advanceCall (run .image) reply .image; history = advanceIn (run .history) })
   invariant-advanced =
       record {
         history = kept-advance (run .history) (kept .history);
-        image-is = advanced-image ∙ ap (λ (s : State). encode (advance s)) (says run kept) ∙ ap encode (sym (state-advance (run .history) (kept .history)));
+        image-is = advances.done-image (run .image) reply done ∙ ap (λ (s : State). encode (advance s)) (says run kept) ∙ ap encode (sym (state-advance (run .history) (kept .history)));
         is-sound = subst SoundInRange (sym (state-advance (run .history) (kept .history))) (advance-sound (stateOf (run .history)) (kept .is-sound) before-last);
         counted =
             omega (
@@ -199,10 +191,6 @@ module _ (run : Run) (kept : Invariant run) where
   unfolding openCall result
   opened-not n reply other = rw (ne-eqb (openNumber (run .image) n reply) 0 other)
 
-  advanced-not : (reply : List ℕ) → advanceNumber (run .image) reply ≢ 0 → advanceCall (run .image) reply .image ≡ run .image
-  unfolding advanceCall result
-  advanced-not reply other = rw (ne-eqb (advanceNumber (run .image) reply) 0 other)
-
   offered : (block reply : List ℕ) (k : ℕ) → offerNumber (run .image) block reply ≡ k → Invariant (leaving (offerCall (run .image) block reply .image) (feed (offering block) k (run .history)))
   unfolding feed
   offered block reply zero e = invariant-offered run kept block reply e
@@ -211,7 +199,7 @@ module _ (run : Run) (kept : Invariant run) where
   advanced : (reply : List ℕ) (k : ℕ) → advanceNumber (run .image) reply ≡ k → Invariant (leaving (advanceCall (run .image) reply .image) (feed advancing k (run .history)))
   unfolding feed
   advanced reply zero e = invariant-advanced run kept reply e
-  advanced reply (suc k) e = unchanged (advanced-not reply (λ z. let w : _≡_ {A = ℕ} (suc k) 0 = sym e ∙ z in omega arith))
+  advanced reply (suc k) e = unchanged (advance-decline-leaves (run .image) reply (λ z. let w : _≡_ {A = ℕ} (suc k) 0 = sym e ∙ z in omega arith))
 
   called : (call : Call) (reply : List ℕ) → Allowed call (perform call (run .image) reply) → Invariant (leaving (perform call (run .image) reply .image) (feed call (perform call (run .image) reply .number) (run .history)))
   unfolding perform

@@ -15,7 +15,7 @@ use Rattle.sound_pipeline.proofs.Carried.{live-is, few}
 use Rattle.selection.specs.Candidates.{Queue}
 use Rattle.dispatch.specs.declared.leave.Remaining.{Remaining}
 use Rattle.dispatch.specs.Advanced.{advanced}
-use Rattle.dispatch.specs.Remaining.{moved, remaining, Held, holding}
+use Rattle.dispatch.specs.Remaining.{remaining, Held, holding}
 
 -- A sound state has a last station.
 pub stations : {p : Pipeline} → SoundPipeline p → {n : ℕ} → n ≡ p .n → (1 ≤ n) × (n ≤ maxStations)
@@ -49,5 +49,5 @@ held {p} ok =
 
 module _ (p : Pipeline) {services vacant : List Service} {rest : Remaining} {live n out : ℕ} where
   pub put-together : live ≡ p .live → n ≡ p .n → services ≡ map oneLess (startEach (map view (take live (p .orders))) (p .services)) → rest ≡ holding (remaining (p .n) services (take live (p .orders))) → vacant ≡ map vacate services → out ≡ ticketOut n services → record { out = out; state = record { n = p .n; live = rest .live; clock = p .clock + 1; next = p .next; services = vacant; orders = rest .orders } } ≡ advanced (listed p)
-  unfolding advanced advance advanceOut leave tick starts listed padded holding remaining moved
+  unfolding advanced advance advanceOut leave tick starts listed padded holding remaining
   put-together live-is n-is s r v o = rw (o, v, r, s, live-is, n-is)

@@ -1,6 +1,6 @@
 -- The loop over the live orders: what it has done after i of them, that nothing is to be done where no order leaves a station, and what clearing the rest gives.
 use mathlib.Core.Path.{_≡_, refl, sym, ap, _∙_}
-use mathlib.Core.Bool.{Bool, true, false, cond, _&&_, _||_}
+use mathlib.Core.Bool.{Bool, true, false, cond, _&&_}
 use mathlib.Core.List.{List, [], _∷_, _++_, map, map-append, append-nil, append-assoc, List·Memᴰ·head, List·Memᴰ·tail}
 use Prim.Native.Nat.{ℕ, zero, suc, _+_, _-_, _≤_, _<_}
 use native.Mathlib.Numerals.{add-one}
@@ -15,18 +15,19 @@ use Rattle.model.specs.Limits.{maxLive}
 use Rattle.model.specs.Lists.{isZero, any, only}
 use Rattle.model.specs.State.{idle}
 use Rattle.model.specs.Tick.{view, stationAfter, moveTo}
-use Rattle.lists.proofs.Tests.{either}
+use Rattle.lists.proofs.Tests.{either, both-false}
 use Rattle.lists.proofs.Fills.{past}
 use Rattle.schedule.specs.Valid.{_∈_}
+use Rattle.schedule.specs.Pass.{moved}
 use Rattle.image.specs.Pipeline.{unused}
 use Rattle.selection.specs.Candidates.{Placed}
 use Rattle.selection.proofs.CandidateLaws.{placed-at}
 use Rattle.station_entries.proofs.StationLaws.{at-place}
-use Rattle.dispatch.specs.Remaining.{finishes, movedBy, moved, remaining, Held, holding, clearedTo}
+use Rattle.dispatch.specs.Remaining.{finishes, movedBy, remaining, Held, holding, clearedTo}
 
 -- A record by the entry of its own station.
 moved-by : (services : List Service) (o : Order) → 1 ≤ o .station → movedBy (getD services (o .station - 1) idle) o ≡ moved services o
-unfolding movedBy moved moveTo stationAfter view
+unfolding movedBy moveTo stationAfter view
 moved-by services o h = rw (at-place idle services (o .station) h)
 
 -- One entry more behind a list of which some are kept.
@@ -48,15 +49,11 @@ module _ {A : Type 0} (test : A → Bool) where
   only-dropped l x e = rw (only-append l (x ∷ []), e) (append-nil (only test l))
 
 -- No order leaves a station: the records are as they were.
-neither : (a b : Bool) → (a || b) ≡ false → (a ≡ false) × (b ≡ false)
-neither true b h = (h, cc)
-neither false b h = (refl, h)
-
 none-at : (services : List Service) (i : ℕ) → any finishes services ≡ false → finishes (getD services i idle) ≡ false
 unfolding any finishes
 none-at [] i e = refl
-none-at (x ∷ l) zero e = neither (finishes x) (any finishes l) e .0
-none-at (x ∷ l) (suc i) e = none-at l i (neither (finishes x) (any finishes l) e .1)
+none-at (x ∷ l) zero e = both-false (finishes x) (any finishes l) e .0
+none-at (x ∷ l) (suc i) e = none-at l i (both-false (finishes x) (any finishes l) e .1)
 
 stays-put : (e : Service) (o : Order) → finishes e ≡ false → 1 ≤ o .ticket → movedBy e o ≡ o
 unfolding movedBy moveTo finishes

@@ -10,8 +10,9 @@ use Rattle.model.specs.declared.Order.{Order}
 use Rattle.model.specs.declared.Service.{Service}
 use Rattle.model.specs.Limits.{maxLive}
 use Rattle.model.specs.Lists.{isZero, only}
-use Rattle.model.specs.Tick.{view, stationAfter, moveTo}
+use Rattle.model.specs.Tick.{moveTo}
 use Rattle.schedule.specs.Valid.{_∈_}
+use Rattle.schedule.specs.Pass.{moved}
 use Rattle.image.specs.Pipeline.{unused}
 use Rattle.selection.specs.Candidates.{Queue}
 use Rattle.dispatch.specs.declared.leave.Remaining.{Remaining}
@@ -20,12 +21,9 @@ use Rattle.dispatch.specs.declared.leave.Remaining.{Remaining}
 unfoldable pub finishes : Service → Bool
 finishes e = not (isZero (e .ticket)) && isZero (e .left)
 
--- The record of an order once those with nothing to go have left their stations: by the entry of its own station, and by all of them.
+-- The record of an order once those with nothing to go have left their stations (`moved`), by the entry of its own station.
 unfoldable pub movedBy : Service → Order → Order
 movedBy e o = moveTo (cond (eqb (e .ticket) (o .ticket) && isZero (e .left)) (o .station + 1) (o .station)) o
-
-unfoldable pub moved : List Service → Order → Order
-moved services o = moveTo (stationAfter services (view o)) o
 
 unfoldable pub remaining : ℕ → List Service → List Order → List Order
 remaining n services orders = only (λ o. leb (o .station) n) (map (moved services) orders)

@@ -38,6 +38,10 @@ pub and-both : (a b : Bool) → (a && b) ≡ true → (a ≡ true) × (b ≡ tru
 and-both true b h = (refl, h)
 and-both false b h = (h, cc)
 
+pub both-false : (a b : Bool) → (a || b) ≡ false → (a ≡ false) × (b ≡ false)
+both-false true b h = (h, cc)
+both-false false b h = (refl, h)
+
 pub and-middle : (a b c d : Bool) → (a && b && (c && d)) ≡ (a && c && (b && d))
 and-middle true true c d = refl
 and-middle true false true d = refl

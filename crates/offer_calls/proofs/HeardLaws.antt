@@ -2,10 +2,10 @@
 use mathlib.Core.Path.{_≡_, refl, sym, ap, _∙_}
 use mathlib.Core.Logic.{inl}
 use mathlib.Core.Bool.{Bool, true, false, cond}
-use mathlib.Core.List.{List, [], _∷_, _++_, map}
+use mathlib.Core.List.{List, _++_}
 use Prim.Native.Nat.{ℕ, _≤_}
 use native.Mathlib.Omega.{arith}
-use lib.ListN.{length, length-append, length-map}
+use lib.ListN.{length}
 use borrow.Author.Tests.{eq-eqb, ne-eqb}
 use Rattle.model.specs.declared.Block.{Block}
 use Rattle.model.specs.Limits.{maxLive}
@@ -15,13 +15,14 @@ use Rattle.model.specs.State.{State}
 use Rattle.model.specs.Layout.{imageSize, blockSize, replySize}
 use Rattle.model.specs.Image.{decode, encode}
 use Rattle.model.specs.Questions.{firstNo, Answer, replyBytes}
-use Rattle.model.specs.Admission.{blockOf, arrival, joinedBy, joinedLive, accept, blockLengthQuestion, blockQuestions, stateQuestions, orderQuestions}
+use Rattle.model.specs.Admission.{blockOf, accept, blockLengthQuestion, blockQuestions, stateQuestions, orderQuestions}
 use Rattle.model.specs.Calls.{replyQuestion, lengthQuestion, imageQuestions, offerNumber, offerCall, quoteCall, result}
 use Rattle.image.specs.declared.Pipeline.{Pipeline}
 use Rattle.image.specs.Pipeline.{padded, listed}
 use Rattle.image.proofs.TwoForms.{listed-padded}
 use Rattle.offers.specs.Considered.{Fitting}
 use Rattle.offers.proofs.Questions.{considered}
+use Rattle.offers.proofs.Accept.{accept-length}
 use Rattle.admission.specs.declared.decision.Decision.{Decision}
 use Rattle.admission.specs.declared.decision.Decision.the-variants.{Accepted, Costs, DueIn, DueTick, Tickets, Room, Late, Delaying}
 use Rattle.admission.specs.declared.offer.Offered.{Offered}
@@ -54,9 +55,8 @@ about o e f r = rw (← e, ← f) r
 
 -- An accepted state has at most 32 live orders.
 pub room-left : {s : State} {b : Block} {q : Pipeline} → Fitting s b → q ≡ padded (accept s b) → q .live ≤ maxLive
-unfolding padded accept joinedLive
-room-left {s} {b} f e =
-    omega (arith, ap (λ (q : Pipeline). q .live) e, length-append (map (joinedBy b) (s .orders)) (arrival s b ∷ []), length-map (s .orders) (joinedBy b), f .room)
+unfolding padded
+room-left {s} {b} f e = omega (arith, ap (λ (q : Pipeline). q .live) e, accept-length s b, f .room)
 
 module _ (image block reply : List ℕ) (h : Heard image block reply) where
   number-is : firstNo (blockQuestions (decode image .n) (blockOf block) ++ stateQuestions (decode image) (blockOf block)) ≡ offerNumber image block reply

@@ -1,5 +1,5 @@
 -- A sound state stays sound and in range as an arrival is accepted: a live order keeps its record but for a larger sum and larger maxima, and the questions say of the arrival what is asked of a record. Its ranks stay bytes where the arrival's are.
-use mathlib.Core.Path.{_≡_, refl, subst}
+use mathlib.Core.Path.{_≡_, refl, ap, subst, _∙_}
 use mathlib.Core.Logic.{inl, inr}
 use mathlib.Core.List.{List, [], _∷_, map, List·Memᴰ·head, List·Memᴰ·tail}
 use Prim.Native.Nat.{ℕ, _+_, _≤_, _<_}
@@ -46,6 +46,10 @@ unfolding dueOf
 due-bounds clock b h = elim (eqb-cases (b .«due_in») 0) [ inl t ↦ rw (t .0) (omega arith) | inr t ↦ rw (t .0) (omega (arith, t .1)) ]
 
 module _ (s : State) (b : Block) where
+  pub accept-length : length (accept s b .orders) ≡ length (s .orders) + 1
+  unfolding accept joinedLive
+  accept-length = length-append (joinedLive s b) (arrival s b ∷ []) ∙ ap (λ (k : ℕ). k + 1) (length-map (s .orders) (joinedBy b))
+
   -- What holds of the live orders with the arrival in their interference sets, and of the arrival, holds of those live after it.
   each-live : (P : Order → Type 0) → ((o : Order) → o ∈ s .orders → P (joinedBy b o)) → P (arrival s b) → (o : Order) → o ∈ accept s b .orders → P o
   unfolding accept acceptNext
@@ -128,7 +132,7 @@ module _ (s : State) (b : Block) where
         record {
           n-low = g .n-low;
           n-high = g .n-high;
-          live = omega (arith, length-append (joinedLive s b) (arrival s b ∷ []), length-map (s .orders) (joinedBy b), f .room);
+          live = omega (arith, accept-length, f .room);
           clock = g .clock;
           rising = valid .rising;
           below = valid .below;

@@ -7,7 +7,7 @@ use native.Mathlib.Omega.{arith}
 use lib.ListN.{length}
 use lib.Dec.{ltb}
 use borrow.Author.Tests.{ltb-true, ltb-false, le-leb, lt-leb, not-true}
-use Rattle.lists.proofs.Tests.{either, and-both, inside}
+use Rattle.lists.proofs.Tests.{either, and-both, both-false, inside}
 use Rattle.model.specs.Limits.{maxStations, maxLive}
 use Rattle.model.specs.Lists.{all}
 use Rattle.model.specs.Bytes.{byte}
@@ -18,15 +18,11 @@ use Rattle.soundness.specs.declared.Flaw.{Flaw}
 use Rattle.soundness.specs.declared.Flaw.the-variants.{StationCount, LiveCount}
 use Rattle.soundness.specs.Flaw.{SoundIs, named, isNothing, firstOf, firstFlaw, laterClauses, listOf, laterHold, flawOf}
 
-neither-of : (a b : Bool) → (a || b) ≡ false → (a ≡ false) × (b ≡ false)
-neither-of true b e = (e, cc)
-neither-of false b e = (refl, e)
-
 -- Counts that pass are in range.
 pub counts-in-range : (n live : ℕ) → (ltb n 1 || ltb maxStations n || ltb maxLive live) ≡ false → (1 ≤ n) × (n ≤ maxStations) × (live ≤ maxLive)
 counts-in-range n live e =
-    let f = neither-of (ltb n 1 || ltb maxStations n) (ltb maxLive live) e in
-    let g = neither-of (ltb n 1) (ltb maxStations n) (f .0) in
+    let f = both-false (ltb n 1 || ltb maxStations n) (ltb maxLive live) e in
+    let g = both-false (ltb n 1) (ltb maxStations n) (f .0) in
     (ltb-false n 1 (g .0), ltb-false maxStations n (g .1), ltb-false maxLive live (f .1))
 
 module _ (image : List ℕ) {n : ℕ} (is : n ≡ byte image stationCountAt) where
@@ -57,7 +53,7 @@ module _ (image : List ℕ) {n : ℕ} (is : n ≡ byte image stationCountAt) whe
   pub later-sound : (ltb n 1 || ltb maxStations n || ltb maxLive (liveCount image)) ≡ false → laterHold (laterClauses image) ≡ sound image
   unfolding sound clauses all liveCountInRange laterHold listOf laterClauses
   later-sound e =
-      let f = neither-of (ltb n 1 || ltb maxStations n) (ltb maxLive (liveCount image)) e in
+      let f = both-false (ltb n 1 || ltb maxStations n) (ltb maxLive (liveCount image)) e in
       rw (counted (f .0), le-leb (liveCount image) maxLive (ltb-false maxLive (liveCount image) (f .1)))
 
 -- An image is sound where no clause fails.
