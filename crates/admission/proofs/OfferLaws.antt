@@ -12,10 +12,10 @@ use Rattle.model.specs.Soundness.{costsInRange, zeroBeyond}
 use Rattle.model.specs.Questions.{Question, firstNo}
 use Rattle.model.specs.Admission.{dueOf, blockQuestions, stateQuestions, offerAnswer, quoteAnswer}
 use Rattle.image.specs.Pipeline.{unused}
-use Rattle.admission.specs.declared.decision.Decision.{Decision}
-use Rattle.admission.specs.declared.decision.Decision.the-variants.{Costs, DueIn, DueTick, Tickets, Room}
-use Rattle.admission.specs.declared.offer.Offered.{Offered}
-use Rattle.admission.specs.Decision.{numberOf, answerOf}
+use Rattle.decision.specs.declared.Decision.{Decision}
+use Rattle.decision.specs.declared.Decision.the-variants.{Costs, DueIn, DueTick, Tickets, Room}
+use Rattle.admission.specs.declared.Offered.{Offered}
+use Rattle.decision.specs.Decision.{numberOf, answerOf}
 use Rattle.admission.specs.Answers.{Offers}
 
 module _ (s : State) (b : Block) where

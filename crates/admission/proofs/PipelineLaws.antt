@@ -17,7 +17,7 @@ use Rattle.offers.specs.Considered.{Fitting}
 use Rattle.sound_pipeline.specs.SoundPipeline.{SoundPipeline}
 use Rattle.margins.specs.declared.Tried.{Tried}
 use Rattle.margins.specs.Margins.{MarginFits, Tryable, Tries}
-use Rattle.admission.specs.Decision.{arrivalWith}
+use Rattle.admission.specs.Arrival.{arrivalWith}
 use Rattle.admission.proofs.FitLaws.{arrival-fits, joined-fits}
 
 module _ {p : Pipeline} (ok : SoundPipeline p) where

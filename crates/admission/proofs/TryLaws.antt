@@ -17,9 +17,9 @@ use Rattle.model.specs.Admission.{arrival, joinedLive, smallest, smallestMargin
 use Rattle.lists.proofs.Signs.{flip}
 use Rattle.offers.proofs.Signs.{margin-sign, sign-smallest}
 use Rattle.margins.proofs.LeastLaws.{smallest-joined, below-largest}
-use Rattle.admission.specs.declared.decision.Decision.{Decision}
-use Rattle.admission.specs.declared.decision.Decision.the-variants.{Accepted, Late, Delaying}
-use Rattle.admission.specs.Decision.{decisionOf}
+use Rattle.decision.specs.declared.Decision.{Decision}
+use Rattle.decision.specs.declared.Decision.the-variants.{Accepted, Late, Delaying}
+use Rattle.decision.specs.Decision.{decisionOf}
 use Rattle.admission.specs.Answers.{Decides}
 
 -- The decision by the two margins.

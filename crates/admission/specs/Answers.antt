@@ -5,9 +5,9 @@ use Rattle.model.specs.declared.Block.{Block}
 use Rattle.model.specs.State.{State}
 use Rattle.model.specs.Questions.{Question, firstNo}
 use Rattle.model.specs.Admission.{arrival, offerAnswer, quoteAnswer}
-use Rattle.admission.specs.declared.decision.Decision.{Decision}
-use Rattle.admission.specs.declared.offer.Offered.{Offered}
-use Rattle.admission.specs.Decision.{numberOf, answerOf}
+use Rattle.decision.specs.declared.Decision.{Decision}
+use Rattle.admission.specs.declared.Offered.{Offered}
+use Rattle.decision.specs.Decision.{numberOf, answerOf}
 
 -- The first "no" among some questions, and what offer and quote give with it.
 pub record Decides (questions : List Question) (s : State) (b : Block) (d : Decision) : Type 0 where

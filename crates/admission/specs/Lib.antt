@@ -1,3 +1,3 @@
--- What the answers to an offer say.
-pub mod Decision
+-- The arrival, and what the answers to an offer say.
+pub mod Arrival
 pub mod Answers

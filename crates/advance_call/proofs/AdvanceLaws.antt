@@ -11,7 +11,7 @@ use Rattle.model.specs.Bytes.{fourBytes}
 use Rattle.model.specs.State.{State}
 use Rattle.model.specs.Tick.{starts, tick, leave, advance, advanceOut}
 use Rattle.model.specs.Image.{decode, encode}
-use Rattle.model.specs.Questions.{_else_, firstNo, replyBytes}
+use Rattle.model.specs.Questions.{_else_, firstNo}
 use Rattle.model.specs.Calls.{replyQuestion, lengthQuestion, imageQuestions, advanceNumber, advanceAnswer, advanceCall, result}
 use Rattle.image.specs.declared.Pipeline.{Pipeline}
 use Rattle.image.specs.Pipeline.{padded, listed}
@@ -24,33 +24,26 @@ use Rattle.advances.proofs.Advance.{advance-sound}
 use Rattle.dispatch.specs.declared.Advanced.{Advanced}
 use Rattle.dispatch.specs.Advanced.{advanced}
 use Rattle.call_results.specs.Gives.{Gives}
+use Rattle.call_results.specs.Declined.{declinedReply}
+use Rattle.call_results.proofs.Declines.{declines}
 
 module _ (image reply : List ℕ) where
   pub usable : firstNo (replyQuestion reply ∷ imageQuestions image) ≡ 0 → Usable image reply
   unfolding all gives-other replyQuestion lengthQuestion imageQuestions
   usable e = four-say image reply .tells (passed (replyQuestion reply ∷ imageQuestions image) refl e)
 
-  -- A number other than 0 goes with zeros, and leaves the image.
-  declines : (number : ℕ) → number ≡ advanceNumber image reply → (number ≡ 0 → ⊥) → (number ≡ 1 → ⊥) → Gives (advanceCall image reply) number image (fourBytes number ++ fourBytes 0 ++ fourBytes 0 ++ fourBytes 0)
-  unfolding advanceCall result replyBytes advanceAnswer
-  declines number is some other =
-      record {
-        number-is = is;
-        image-is = rw (← is, ne-eqb number 0 some);
-        reply-is = rw (← is, ne-eqb number 1 other, ne-eqb number 0 some);
-      }
+  -- A number other than 0 goes with zeros.
+  declined-by : (number : ℕ) → number ≡ advanceNumber image reply → (number ≡ 0 → ⊥) → Gives (advanceCall image reply) number image (declinedReply number reply)
+  unfolding advanceCall advanceAnswer
+  declined-by number is some = rw (← is) (declines number _ image _ reply some (rw (ne-eqb number 0 some)))
 
   module _ (number : ℕ) (is : number ≡ firstNo (replyQuestion reply ∷ imageQuestions image)) (some : number ≡ 0 → ⊥) where
     number-is : number ≡ advanceNumber image reply
     unfolding advanceNumber
     number-is = decides (replyQuestion reply ∷ imageQuestions image) ((ltb (decode image .clock) lastTick else 13) ∷ []) number is some
 
-    pub unheard : number ≡ 1 → Gives (advanceCall image reply) number image reply
-    unfolding advanceCall result
-    unheard one = record { number-is = number-is; image-is = rw (← number-is, one); reply-is = rw (← number-is, one) }
-
-    pub declined : (number ≡ 1 → ⊥) → Gives (advanceCall image reply) number image (fourBytes number ++ fourBytes 0 ++ fourBytes 0 ++ fourBytes 0)
-    declined other = declines number number-is some other
+    pub declined : Gives (advanceCall image reply) number image (declinedReply number reply)
+    declined = declined-by number number-is some
 
   -- The state that is carried is the image's.
   module _ (u : Usable image reply) (p : Pipeline) (said : listed p ≡ decode image) where
@@ -58,11 +51,11 @@ module _ (image reply : List ℕ) where
     unfolding listed
     clock-is = ap (λ (s : State). s .clock) said
 
-    pub ended : SoundInRange (listed p) → lastTick ≤ p .clock → (number : ℕ) → number ≡ 13 → Gives (advanceCall image reply) number image (fourBytes number ++ fourBytes 0 ++ fourBytes 0 ++ fourBytes 0)
+    pub ended : SoundInRange (listed p) → lastTick ≤ p .clock → (number : ℕ) → number ≡ 13 → Gives (advanceCall image reply) number image (declinedReply number reply)
     unfolding listed
     ended ok last number is =
         let thirteen = advance-numbers image reply .ended .if (u, omega (arith, clock-is, ok .facts .clock)) in
-        declines number (is ∙ sym thirteen) (λ e. omega arith) (λ e. omega arith)
+        declined-by number (is ∙ sym thirteen) (λ e. omega arith)
 
     module _ (early : p .clock < lastTick) (r : Advanced) (is : r ≡ advanced (listed p)) where
       -- The state after.

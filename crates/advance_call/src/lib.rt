@@ -2,6 +2,7 @@
 ghost use Rattle.model.specs.Calls.{advanceCall};
 ghost use Rattle.roundtrip.specs.Usable.{Usable};
 ghost use Rattle.call_results.specs.Gives.{Gives};
+use call_results::put_decline;
 use call_results::put_reply;
 use dispatch::advance;
 use image::decode::decode;
@@ -23,6 +24,6 @@ pub fn advanced(image: &mut [u8], reply: &mut [u8]) -> u32
         return 0;
     }
     let number = questions::number(Answer::Clock);
-    put_reply(reply, number, 0, 0, 0);
+    put_decline(reply, number);
     number
 }

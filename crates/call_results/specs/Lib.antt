@@ -1,2 +1,3 @@
--- What the contracts of the calls say.
+-- What the contracts of the calls say, and what a decline replies.
 pub mod Gives
+pub mod Declined

@@ -4,6 +4,7 @@ ghost use mathlib.Core.List.{_++_};
 ghost use lib.ListN.{length};
 ghost use Rattle.model.specs.Bytes.{fourBytes};
 ghost use Rattle.model.specs.Layout.{replySize};
+ghost use Rattle.call_results.specs.Declined.{declinedReply};
 use image::layout::REPLY_MARGIN_AT;
 use image::layout::REPLY_NUMBER_AT;
 use image::layout::REPLY_TICK_AT;
@@ -19,4 +20,15 @@ pub fn put_reply(reply: &mut [u8], number: u32, ticket: u32, tick: u32, margin: 
     put_u32(reply, REPLY_TICKET_AT, ticket);
     put_u32(reply, REPLY_TICK_AT, tick);
     put_u32(reply, REPLY_MARGIN_AT, margin);
+}
+
+// A decline: "After 1 the reply is untouched", otherwise it holds the number and zeros. Neither a reply written beside number
+// 1 nor one left as it was after 2 meets the promise.
+pub fn put_decline(reply: &mut [u8], number: u32)
+    requires { ⌜ ((number ≡ 1 → ⊥) → length (now reply) ≡ replySize) ⌝ }
+    ensures { λ _. ⌜ now (reply .exit) ≡ declinedReply number (now (reply .entry)) ⌝ }
+{
+    if number != 1 {
+        put_reply(reply, number, 0, 0, 0);
+    }
 }

@@ -13,9 +13,9 @@ use Rattle.image.specs.Pipeline.{unused, listed, padded}
 use Rattle.sound_pipeline.specs.SoundPipeline.{SoundPipeline}
 use Rattle.sound_pipeline.proofs.Carried.{live-is, few}
 use Rattle.selection.specs.Candidates.{Queue}
-use Rattle.dispatch.specs.declared.leave.Remaining.{Remaining}
+use Rattle.leaving.specs.declared.Remaining.{Remaining}
 use Rattle.dispatch.specs.Advanced.{advanced}
-use Rattle.dispatch.specs.Remaining.{remaining, Held, holding}
+use Rattle.leaving.specs.Remaining.{remaining, Held, holding}
 
 -- A sound state has a last station.
 pub stations : {p : Pipeline} → SoundPipeline p → {n : ℕ} → n ≡ p .n → (1 ≤ n) × (n ≤ maxStations)

@@ -1,3 +1,2 @@
--- The loop over the live orders, and the steps put together.
-pub mod LeaveLaws
+-- The steps put together.
 pub mod AdvanceLaws

@@ -1,3 +1,2 @@
--- What advance makes of a state, and the orders that are not out.
+-- What advance makes of a state.
 pub mod Advanced
-pub mod Remaining

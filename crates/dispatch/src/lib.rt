@@ -1,6 +1,4 @@
 // The course of one tick, on a state by value.
-pub mod leave; // leave.rt: who leaves a station, and who is out
-
 ghost use mathlib.Core.Path.{_≡_};
 ghost use Prim.Native.Nat.{_<_};
 ghost use Rattle.model.specs.Limits.{lastTick};
@@ -9,7 +7,7 @@ ghost use Rattle.sound_pipeline.specs.SoundPipeline.{SoundPipeline};
 ghost use Rattle.dispatch.specs.Advanced.{advanced};
 use image::Pipeline;
 use image::wide;
-use leave::leave;
+use leaving::leave;
 use selection::started;
 use station_entries::tick::tick_all;
 use station_entries::vacate::ticket_out;

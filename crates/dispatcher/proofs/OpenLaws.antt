@@ -16,6 +16,8 @@ use Rattle.model.specs.Questions.{firstNo, replyBytes}
 use Rattle.model.specs.Calls.{replyQuestion, lengthQuestion, openNumber, openCall, result}
 use Rattle.lists.proofs.Tests.{inside}
 use Rattle.call_results.specs.Gives.{Gives}
+use Rattle.call_results.specs.Declined.{declinedReply}
+use Rattle.call_results.proofs.Declines.{declines}
 
 module _ (image : List ℕ) (n : ℕ) (reply : List ℕ) where
   pub reply-no : (length reply ≡ replySize → ⊥) → 1 ≡ openNumber image n reply
@@ -43,7 +45,7 @@ module _ (image : List ℕ) (n : ℕ) (reply : List ℕ) where
       go false e = absurd (h (sym (reply-no (eqb-false (length reply) replySize e))))
 
   module _ (done : openNumber image n reply ≡ 0) where
-    replied : length reply ≡ replySize
+    pub replied : length reply ≡ replySize
     replied = heard (λ e. let z : _≡_ {A = ℕ} 0 1 = sym done ∙ e in omega arith)
 
     pub whole : length image ≡ imageSize
@@ -61,21 +63,12 @@ module _ (image : List ℕ) (n : ℕ) (reply : List ℕ) where
         go true true e f = absurd (let z : _≡_ {A = ℕ} 14 0 = stations-no replied whole (rw e) ∙ done in omega arith)
         go false true e f = absurd (let z : _≡_ {A = ℕ} 14 0 = stations-no replied whole (rw (e, f)) ∙ done in omega arith)
 
-  -- The call by its number: 1 leaves all as it was, 0 writes the image and the reply, any other the reply alone.
+  -- The call by its number: 0 writes the image and the reply, any other at most the reply.
   module _ (number : ℕ) (is : number ≡ openNumber image n reply) where
-    pub unheard : number ≡ 1 → Gives (openCall image n reply) number image reply
-    unfolding openCall result
-    unheard one = record { number-is = is; image-is = rw (← is, one); reply-is = rw (← is, one) }
-
     pub opened : number ≡ 0 → Gives (openCall image n reply) number (encode (fresh n)) (fourBytes number ++ fourBytes 0 ++ fourBytes 0 ++ fourBytes 0)
     unfolding openCall result replyBytes
     opened zero = record { number-is = is; image-is = rw (← is, zero); reply-is = rw (← is, zero) }
 
-    pub declined : (number ≡ 0 → ⊥) → (number ≡ 1 → ⊥) → Gives (openCall image n reply) number image (fourBytes number ++ fourBytes 0 ++ fourBytes 0 ++ fourBytes 0)
-    unfolding openCall result replyBytes
-    declined zero one =
-        record {
-          number-is = is;
-          image-is = rw (← is, ne-eqb number 0 zero);
-          reply-is = rw (← is, ne-eqb number 1 one);
-        }
+    pub declined : (number ≡ 0 → ⊥) → Gives (openCall image n reply) number image (declinedReply number reply)
+    unfolding openCall
+    declined some = rw (← is) (declines number _ image _ reply some refl)

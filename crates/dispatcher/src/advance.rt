@@ -2,19 +2,16 @@
 ghost use Rattle.model.specs.Calls.{advanceCall};
 ghost use Rattle.call_results.specs.Gives.{Gives};
 use advance_call::advanced;
-use call_results::put_reply;
+use call_results::put_decline;
 
 // Lets one tick pass. Neither a decline that writes into the image nor a clock that goes past its end meets the promise.
 #[no_mangle]
 pub extern "C" fn dispatcher_advance(image: &mut [u8], reply: &mut [u8]) -> u32
     ensures { λ r. ⌜ Gives (advanceCall (now (image .entry)) (now (reply .entry))) r (now (image .exit)) (now (reply .exit)) ⌝ }
 {
-    let number = questions::number(questions::answer_to(image, reply));
-    if number == 1 {
-        return number;
-    }
+    let number = questions::first_number(image, reply);
     if number != 0 {
-        put_reply(reply, number, 0, 0, 0);
+        put_decline(reply, number);
         return number;
     }
     advanced(image, reply)

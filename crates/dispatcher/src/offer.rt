@@ -1,7 +1,7 @@
 // "quote and offer 1 to 12"; "Quote gives what offer would give, with ticket 0, and changes nothing in the image."
 ghost use Rattle.model.specs.Calls.{offerCall, quoteCall};
 ghost use Rattle.call_results.specs.Gives.{Gives};
-use call_results::put_reply;
+use call_results::put_decline;
 use offer_calls::first_number;
 use offer_calls::offered;
 use offer_calls::quoted;
@@ -13,11 +13,8 @@ pub extern "C" fn dispatcher_quote(image: &[u8], order: &[u8], reply: &mut [u8])
     ensures { λ r. ⌜ Gives (quoteCall (now (image .entry)) (now (order .entry)) (now (reply .entry))) r (now (image .entry)) (now (reply .exit)) ⌝ }
 {
     let number = first_number(image, order, reply);
-    if number == 1 {
-        return number;
-    }
     if number != 0 {
-        put_reply(reply, number, 0, 0, 0);
+        put_decline(reply, number);
         return number;
     }
     quoted(image, order, reply)
@@ -30,11 +27,8 @@ pub extern "C" fn dispatcher_offer(image: &mut [u8], order: &[u8], reply: &mut [
     ensures { λ r. ⌜ Gives (offerCall (now (image .entry)) (now (order .entry)) (now (reply .entry))) r (now (image .exit)) (now (reply .exit)) ⌝ }
 {
     let number = first_number(image, order, reply);
-    if number == 1 {
-        return number;
-    }
     if number != 0 {
-        put_reply(reply, number, 0, 0, 0);
+        put_decline(reply, number);
         return number;
     }
     offered(image, order, reply)

@@ -3,6 +3,7 @@ ghost use mathlib.Core.Path.{_≡_};
 ghost use Rattle.model.specs.Calls.{openNumber, openCall};
 ghost use Rattle.questions.specs.Answer.{numberOf};
 ghost use Rattle.call_results.specs.Gives.{Gives};
+use call_results::put_decline;
 use call_results::put_reply;
 use image::layout::IMAGE_SIZE;
 use image::layout::REPLY_SIZE;
@@ -31,14 +32,11 @@ pub extern "C" fn dispatcher_open(image: &mut [u8], stations: u32, reply: &mut [
     ensures { λ r. ⌜ Gives (openCall (now (image .entry)) stations (now (reply .entry))) r (now (image .exit)) (now (reply .exit)) ⌝ }
 {
     let number = questions::number(open_answer(image, stations, reply));
-    if number == 1 {
+    if number != 0 {
+        put_decline(reply, number);
         return number;
     }
-    if number == 0 {
-        image_writer::encode_fresh(image, (stations % 256) as u8);
-        put_reply(reply, number, 0, 0, 0);
-        return number;
-    }
+    image_writer::encode_fresh(image, (stations % 256) as u8);
     put_reply(reply, number, 0, 0, 0);
     number
 }

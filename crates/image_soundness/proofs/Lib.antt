@@ -1,4 +1,3 @@
 -- Laws that the clauses share.
 pub mod Parts
 pub mod Rising
-pub mod Marks

@@ -1,4 +1,3 @@
-// Document 01, "Sound means", for what is asked of an image as a whole.
+// Document 01, "Sound means", for the bytes of an image and its tickets.
 pub mod zeros; // zeros.rt: zero bytes and unused records
 pub mod tickets; // tickets.rt: the live tickets in a row
-pub mod services; // services.rt: the station entries

@@ -13,7 +13,7 @@ use Rattle.model.specs.Soundness.{sound}
 use Rattle.model.specs.Questions.{_else_, firstNo}
 use Rattle.model.specs.Calls.{lengthQuestion, imageQuestions}
 use Rattle.report.specs.Report.{figureLine, stateReport, clauseLine, report}
-use Rattle.soundness.specs.Flaw.{firstFlaw}
+use Rattle.first_flaw.specs.Flaw.{firstFlaw}
 use Rattle.inspection.specs.Explained.{flawName, explained}
 
 none-no : (whole marked sound : Bool) → firstNo ((whole else 2) ∷ (marked else 3) ∷ (sound else 4) ∷ []) ≡ 0 → (whole ≡ true) × (sound ≡ true)

@@ -9,9 +9,9 @@ use Rattle.model.specs.Questions.{firstNo}
 use Rattle.model.specs.Calls.{imageQuestions}
 use Rattle.text.specs.Ascii.{ascii}
 use Rattle.report.specs.Report.{report}
-use Rattle.soundness.specs.declared.Flaw.{Flaw}
-use Rattle.soundness.specs.declared.Flaw.the-variants.{Nothing, StationCount, LiveCount, Clock, ZeroBytes, UnusedRecords, Tickets, Acceptance, Due, Station, Costs, Maxima, Sum, OnTime, Beyond, Services}
-use Rattle.soundness.specs.Flaw.{firstFlaw}
+use Rattle.first_flaw.specs.declared.Flaw.{Flaw}
+use Rattle.first_flaw.specs.declared.Flaw.the-variants.{Nothing, StationCount, LiveCount, Clock, ZeroBytes, UnusedRecords, Tickets, Acceptance, Due, Station, Costs, Maxima, Sum, OnTime, Beyond, Services}
+use Rattle.first_flaw.specs.Flaw.{firstFlaw}
 use Rattle.inspection.specs.declared.Span.{Span}
 
 -- The clauses by name, in document 01's order.

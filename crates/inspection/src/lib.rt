@@ -8,10 +8,10 @@ ghost use Rattle.model.specs.Image.{decode as says};
 ghost use Rattle.model.specs.Soundness.{sound};
 ghost use Rattle.lists.specs.Stored.{Put};
 ghost use Rattle.report.specs.Report.{stateReport, clauseLine};
-ghost use Rattle.soundness.specs.Flaw.{firstFlaw};
+ghost use Rattle.first_flaw.specs.Flaw.{firstFlaw};
 ghost use Rattle.inspection.specs.Explained.{flawName, Named, explained};
+use first_flaw::Flaw;
 use image::decode::decode;
-use soundness::Flaw;
 
 // The names of the clauses, in document 01's order.
 const NAMES: [u8; 128] =
@@ -57,7 +57,7 @@ fn put_flaw(out: &mut [u8], at: usize, image: &[u8]) -> usize
     requires { ⌜ (length (now image) ≡ imageSize) × (at + 22 ≤ length (now out)) ⌝ }
     ensures { λ r. ⌜ Put (now (out .entry)) at (clauseLine (flawName (firstFlaw (now (image .entry))))) r (now (out .exit)) × (r ≤ at + 22) ⌝ }
 {
-    let span = span_of(soundness::first_flaw(image));
+    let span = span_of(first_flaw::first_flaw(image));
     let start = span.0;
     let end = start + span.1;
     let names = NAMES;

@@ -23,10 +23,10 @@ use Rattle.image.proofs.TwoForms.{listed-padded}
 use Rattle.offers.specs.Considered.{Fitting}
 use Rattle.offers.proofs.Questions.{considered}
 use Rattle.offers.proofs.Accept.{accept-length}
-use Rattle.admission.specs.declared.decision.Decision.{Decision}
-use Rattle.admission.specs.declared.decision.Decision.the-variants.{Accepted, Costs, DueIn, DueTick, Tickets, Room, Late, Delaying}
-use Rattle.admission.specs.declared.offer.Offered.{Offered}
-use Rattle.admission.specs.Decision.{numberOf, answerOf}
+use Rattle.decision.specs.declared.Decision.{Decision}
+use Rattle.decision.specs.declared.Decision.the-variants.{Accepted, Costs, DueIn, DueTick, Tickets, Room, Late, Delaying}
+use Rattle.admission.specs.declared.Offered.{Offered}
+use Rattle.decision.specs.Decision.{numberOf, answerOf}
 use Rattle.admission.specs.Answers.{Decides, Offers}
 use Rattle.call_results.specs.Gives.{Gives}
 use Rattle.offer_calls.specs.Heard.{Heard}

@@ -8,16 +8,17 @@ use lib.ListN.{length}
 use lib.Dec.{eqb}
 use borrow.Author.Tests.{eq-eqb, ne-eqb, eqb-true}
 use Rattle.model.specs.Lists.{all}
-use Rattle.model.specs.Bytes.{fourBytes}
 use Rattle.model.specs.Layout.{imageSize, blockSize, replySize}
 use Rattle.model.specs.Image.{marked, decode}
 use Rattle.model.specs.Soundness.{sound}
-use Rattle.model.specs.Questions.{Question, _else_, firstNo, replyBytes, zeros}
+use Rattle.model.specs.Questions.{Question, _else_, firstNo, zeros}
 use Rattle.model.specs.Admission.{blockOf, blockLengthQuestion, blockQuestions, stateQuestions, orderQuestions, offerAnswer, quoteAnswer}
-use Rattle.model.specs.Calls.{replyQuestion, lengthQuestion, imageQuestions, offerNumber, offerCall, quoteCall, result}
+use Rattle.model.specs.Calls.{replyQuestion, lengthQuestion, imageQuestions, offerNumber, offerCall, quoteCall}
 use Rattle.lists.proofs.Tests.{and-both}
 use Rattle.roundtrip.proofs.Questions.{answer, gives-other, decides, passed, after}
 use Rattle.call_results.specs.Gives.{Gives}
+use Rattle.call_results.specs.Declined.{declinedReply}
+use Rattle.call_results.proofs.Declines.{declines}
 use Rattle.offer_calls.specs.Heard.{Heard}
 
 -- Question 5.
@@ -82,29 +83,10 @@ module _ (image block reply : List ℕ) where
     unfolding offerAnswer
     no-values = rw (ne-eqb number 0 some, ne-eqb number 11 (λ e. omega (arith, most, e)), ne-eqb number 12 (λ e. omega (arith, most, e)))
 
-    pub offer-unheard : number ≡ 1 → Gives (offerCall image block reply) number image reply
-    unfolding offerCall result
-    offer-unheard one = record { number-is = number-is; image-is = rw (← number-is, one); reply-is = rw (← number-is, one) }
+    pub offer-declined : Gives (offerCall image block reply) number image (declinedReply number reply)
+    unfolding offerCall
+    offer-declined = rw (← number-is) (declines number _ image _ reply some no-values)
 
-    pub quote-unheard : number ≡ 1 → Gives (quoteCall image block reply) number image reply
-    unfolding quoteCall result
-    quote-unheard one = record { number-is = number-is; image-is = rw (← number-is, one); reply-is = rw (← number-is, one) }
-
-    module _ (other : number ≡ 1 → ⊥) where
-      pub offer-declined : Gives (offerCall image block reply) number image (fourBytes number ++ fourBytes 0 ++ fourBytes 0 ++ fourBytes 0)
-      unfolding offerCall result replyBytes
-      offer-declined =
-          record {
-            number-is = number-is;
-            image-is = rw (← number-is, ne-eqb number 0 some);
-            reply-is = rw (← number-is, ne-eqb number 1 other, no-values);
-          }
-
-      pub quote-declined : Gives (quoteCall image block reply) number image (fourBytes number ++ fourBytes 0 ++ fourBytes 0 ++ fourBytes 0)
-      unfolding quoteCall result replyBytes quoteAnswer
-      quote-declined =
-          record {
-            number-is = number-is;
-            image-is = rw (← number-is, ne-eqb number 0 some);
-            reply-is = rw (← number-is, ne-eqb number 1 other, no-values);
-          }
+    pub quote-declined : Gives (quoteCall image block reply) number image (declinedReply number reply)
+    unfolding quoteCall quoteAnswer
+    quote-declined = rw (← number-is) (declines number _ image _ reply some (rw no-values))

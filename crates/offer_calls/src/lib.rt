@@ -7,9 +7,9 @@ ghost use Rattle.model.specs.Calls.{replyQuestion, imageQuestions, offerCall, q
 ghost use Rattle.call_results.specs.Gives.{Gives};
 ghost use Rattle.offer_calls.specs.Heard.{Heard};
 use acceptance::accept;
-use admission::decision::reply_of;
-use admission::offer::offer;
+use admission::offer;
 use call_results::put_reply;
+use decision::reply_of;
 use image::decode::decode;
 use margins::bits;
 use order_block::BLOCK_SIZE;
@@ -21,7 +21,7 @@ use questions::Answer;
 pub fn first_number(image: &[u8], order: &[u8], reply: &[u8]) -> u32
     ensures { λ r. ⌜ r ≡ firstNo (replyQuestion (now (reply .entry)) ∷ imageQuestions (now (image .entry)) ++ (blockLengthQuestion (now (order .entry)) ∷ [])) ⌝ }
 {
-    let number = questions::number(questions::answer_to(image, reply));
+    let number = questions::first_number(image, reply);
     if number != 0 {
         return number;
     }

@@ -23,6 +23,7 @@ use Rattle.roundtrip.proofs.Clauses.{zero-beyond, costs-say, maxima-say}
 use Rattle.row_limits.specs.declared.Limits.{Limits}
 use Rattle.row_limits.specs.Limits.{firstPlaces, Made}
 use Rattle.row_limits.proofs.LimitLaws.{first-place}
+use Rattle.record_flaws.specs.Flaws.{flawAt}
 use Rattle.record_flaws.specs.Holds.{ticksHold, rowsHold, recordHolds}
 
 -- Two tests of one fact.
@@ -82,11 +83,9 @@ module _ (a b : List ℕ) (p : length a ≡ 8) (q : length b ≡ 8) where
       (λ f k h. overlaid-at k ∙ zero-or (at 0 a k) (at 0 b k) (f .0 k h) (f .1 k h))
       (λ g. (λ k h. or-zero (at 0 a k) (at 0 b k) (sym (overlaid-at k) ∙ g k h) .0, λ k h. or-zero (at 0 a k) (at 0 b k) (sym (overlaid-at k) ∙ g k h) .1)))
 
--- What a place has of flaws: those so far, and by how much a cost is below the least, above its maximum or above the sum, and a maximum above the most.
+-- What a place has of flaws: those so far, and the record's own.
 abbrev pub gathered : List ℕ → List ℕ → List ℕ → List ℕ → List ℕ → ℕ → ℕ → ℕ
-gathered flaws least most costs maxima sum i =
-    bitOr (getD flaws i 0)
-    (bitOr (bitOr (bitOr (getD least i 0 - getD costs i 0) (getD costs i 0 - getD maxima i 0)) (getD maxima i 0 - getD most i 0)) (getD costs i 0 - sum))
+gathered flaws least most costs maxima sum i = bitOr (getD flaws i 0) (flawAt (getD least i 0) (getD most i 0) (getD costs i 0) (getD maxima i 0) sum)
 
 -- The rows of an order against the limits of n.
 module _ (n : ℕ) (o : Order) (fits : n ≤ 8) (long : length (o .costs) ≡ 8) (high : length (o .maxima) ≡ 8) (small : (i : ℕ) → getD (o .costs) i 0 < 65536) where

@@ -7,6 +7,7 @@ ghost use Rattle.model.specs.Lists.{all, isZero};
 ghost use Rattle.model.specs.Soundness.{zeroBeyond};
 ghost use Rattle.model.specs.DelayBound.{onTime};
 ghost use Rattle.row_limits.specs.Limits.{Made};
+ghost use Rattle.record_flaws.specs.Flaws.{flawAt};
 ghost use Rattle.record_flaws.specs.Holds.{ticksHold, rowsHold};
 use model::Order;
 use record_soundness::due_in_range;
@@ -53,9 +54,17 @@ pub fn ticks_hold(l: Limits, clock: u32, o: Order) -> bool
     (o.accepted <= clock) & due_in_range(o) & station_in_use(l.n, o) & on_time_within(l, o)
 }
 
+// What is wrong at one place: by how much a cost is below the least, above its maximum or above the sum, and a maximum above
+// the most. Neither a cost of 0 at a station nor a cost above its maximum let through meets the promise.
+fn flaw_at(least: u16, most: u16, cost: u16, maximum: u16, sum: u16) -> u16
+    ensures { λ r. ⌜ r ≡ flawAt least most cost maximum sum ⌝ }
+{
+    above(least, cost) | above(cost, maximum) | above(maximum, most) | above(cost, sum)
+}
+
 // The flaws of the rows so far with those of one record more. 0 at a place says that every cost there is at least the
-// least, every maximum at least the cost and at most the most, and every sum at least the cost. Neither a cost of 0 at a
-// station nor a cost above its maximum let through meets the promise.
+// least, every maximum at least the cost and at most the most, and every sum at least the cost. Neither the flaws of the last
+// record alone nor a place left out meets the promise.
 pub fn flaws_with(flaws: [u16; 8], l: Limits, o: Order) -> [u16; 8]
     requires { ⌜ Made l ⌝ }
     ensures { λ r. ⌜ all isZero r ≡ (all isZero flaws && rowsHold (l .n) o) ⌝ }
@@ -68,9 +77,7 @@ pub fn flaws_with(flaws: [u16; 8], l: Limits, o: Order) -> [u16; 8]
     let mut row: [u16; 8] = [0; 8];
     let mut k: usize = 0;
     while k < 8 {
-        let c = costs[k];
-        let m = maxima[k];
-        row[k] = flaws[k] | (above(least[k], c) | above(c, m) | above(m, most[k]) | above(c, sum));
+        row[k] = flaws[k] | flaw_at(least[k], most[k], costs[k], maxima[k], sum);
         k += 1;
     }
     row

@@ -1,5 +1,5 @@
--- The clauses after the counts, put together from what the functions say of the image: by name, and all in one.
-use mathlib.Core.Path.{_≡_, refl}
+-- The clauses after the counts, put together from what the functions say of the image.
+use mathlib.Core.Path.{_≡_}
 use mathlib.Core.Bool.{Bool, _&&_}
 use mathlib.Core.List.{List}
 use Prim.Native.Nat.{ℕ}
@@ -13,55 +13,10 @@ use Rattle.model.specs.Bytes.{byte, word}
 use Rattle.model.specs.Layout.{stationCountAt, clockAt}
 use Rattle.model.specs.Image.{liveCount, servicesOf, ordersOf, decode}
 use Rattle.model.specs.DelayBound.{onTime}
-use Rattle.model.specs.Soundness.{clockInRange, zeroBytesZero, unusedRecordsZero, ticketsInOrder, acceptedByNow, dueInRange, stationInUse, costsInRange, maximaInRange, sumInRange, recordZeroBeyond, isIdle, fieldsBeyondZero, servicesInOrder}
+use Rattle.model.specs.Soundness.{clockInRange, zeroBytesZero, unusedRecordsZero, ticketsInOrder, acceptedByNow, dueInRange, stationInUse, costsInRange, maximaInRange, sumInRange, recordZeroBeyond, isIdle, fieldsBeyondZero, servicesInOrder, clauses}
 use Rattle.lists.proofs.Tests.{and-true, and-assoc, all-both}
-use Rattle.record_soundness.specs.declared.Tests.{Tests}
 use Rattle.record_flaws.specs.Holds.{recordHolds}
-use Rattle.soundness.specs.declared.Clauses.{Clauses}
-use Rattle.soundness.specs.Records.{testsOfAll}
-use Rattle.soundness.specs.Flaw.{laterClauses, listOf, laterHold}
-
-abbrev joined : ℕ → Tests → Bool → Bool → Bool → Bool → Bool → Clauses
-joined clock tests zero unused tickets idle served =
-    record {
-      clock = leb clock lastTick;
-      «zero_bytes» = zero;
-      «unused_records» = unused;
-      tickets = tickets;
-      acceptance = tests .accepted;
-      due = tests .due;
-      station = tests .station;
-      costs = tests .costs;
-      maxima = tests .maxima;
-      sum = tests .sum;
-      «on_time» = tests .«on_time»;
-      beyond = tests .beyond && idle;
-      services = served;
-    }
-
-module _ (image : List ℕ) where
-  named : joined (word image clockAt) (testsOfAll (byte image stationCountAt) (word image clockAt) (ordersOf image (liveCount image)))
-      (zeroBytesZero image)
-      (unusedRecordsZero image)
-      (ticketsInOrder (decode image))
-      (all isIdle (drop (byte image stationCountAt) (servicesOf image)))
-      (servicesInOrder (decode image)) ≡ laterClauses image
-  unfolding laterClauses decode clockInRange acceptedByNow fieldsBeyondZero testsOfAll
-  named = refl
-
-  pub later-is : {n live clock : ℕ} {tests : Tests} {services : List Service} {zero unused tickets idle served : Bool}
-      → n ≡ byte image stationCountAt
-      → live ≡ liveCount image
-      → clock ≡ word image clockAt
-      → tests ≡ testsOfAll n clock (ordersOf image live)
-      → services ≡ servicesOf image
-      → zero ≡ zeroBytesZero image
-      → unused ≡ unusedRecordsZero image
-      → tickets ≡ ticketsInOrder (decode image)
-      → idle ≡ all isIdle (drop n services)
-      → served ≡ servicesInOrder (decode image)
-      → joined clock tests zero unused tickets idle served ≡ laterClauses image
-  later-is en el ec et es ez eu ek ei er = rw (et, ez, eu, ek, ei, er, es, en, el, ec) named
+use Rattle.soundness.specs.Later.{laterHold}
 
 -- Each clause of all orders, in the place of all clauses of each.
 module _ (n clock : ℕ) (l : List Order) where
@@ -102,8 +57,8 @@ module _ (n clock : ℕ) (l : List Order) where
 
 module _ (image : List ℕ) where
   all-in-one : (leb (word image clockAt) lastTick && zeroBytesZero image && unusedRecordsZero image && ticketsInOrder (decode image) && all (recordHolds (byte image stationCountAt) (word image clockAt)) (ordersOf image (liveCount image)) && all isIdle (drop (byte image stationCountAt) (servicesOf image)) && servicesInOrder (decode image))
-      ≡ laterHold (laterClauses image)
-  unfolding laterHold listOf laterClauses decode clockInRange acceptedByNow fieldsBeyondZero all
+      ≡ laterHold image
+  unfolding laterHold clauses decode clockInRange acceptedByNow fieldsBeyondZero all
   all-in-one =
       rw (clause-by-clause (byte image stationCountAt) (word image clockAt) (ordersOf image (liveCount image))) (simp (and-assoc, and-true))
 
@@ -118,5 +73,5 @@ module _ (image : List ℕ) where
       → services ≡ servicesOf image
       → idle ≡ all isIdle (drop n services)
       → served ≡ servicesInOrder (decode image)
-      → (leb clock lastTick && zero && unused && tickets && held && idle && served) ≡ laterHold (laterClauses image)
+      → (leb clock lastTick && zero && unused && tickets && held && idle && served) ≡ laterHold image
   hold-is en el ec ez eu ek eh es ei er = rw (ez, eu, ek, eh, ei, er, es, en, el, ec) all-in-one

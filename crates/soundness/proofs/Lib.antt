@@ -1,5 +1,4 @@
 -- Laws of the clauses.
 pub mod RecordLaws
-pub mod FlawLaws
 pub mod LaterLaws
-pub mod FirstLaws
+pub mod CountLaws

@@ -1,39 +1,17 @@
--- The clauses of all live orders, one order more: clause by clause, and all clauses in one.
-use mathlib.Core.Path.{_≡_, refl, sym, _∙_}
+-- All clauses of all live orders, one order more.
+use mathlib.Core.Path.{_≡_, sym, _∙_}
 use mathlib.Core.Bool.{Bool, true, false, _&&_}
 use mathlib.Core.List.{List}
 use Prim.Native.Nat.{ℕ, _+_, _<_}
 use lib.ListN.{replicate}
-use lib.Dec.{leb}
 use Rattle.model.specs.declared.Order.{Order}
 use Rattle.model.specs.Lists.{all, isZero, upward}
-use Rattle.model.specs.DelayBound.{onTime}
-use Rattle.model.specs.Soundness.{dueInRange, stationInUse, costsInRange, maximaInRange, sumInRange, zeroBeyond, recordZeroBeyond}
+use Rattle.model.specs.Soundness.{zeroBeyond}
 use Rattle.lists.proofs.Tests.{and-middle, all-upward, one-fails, zeros-zero}
-use Rattle.record_soundness.specs.Record.{testsOf, bothOf}
 use Rattle.record_flaws.specs.Holds.{ticksHold, rowsHold, recordHolds}
 use Rattle.record_flaws.proofs.FlawLaws.{holds-is}
-use Rattle.soundness.specs.Records.{testsOfAll}
 
 module _ (n clock : ℕ) (f : ℕ → Order) where
-  pub tested-none : record { accepted = true; due = true; station = true; costs = true; maxima = true; sum = true; «on_time» = true; beyond = true } ≡ testsOfAll n clock (upward 0 0 f)
-  unfolding testsOfAll all upward
-  tested-none = refl
-
-  pub tested-more : (i : ℕ) → bothOf (testsOfAll n clock (upward 0 i f)) (testsOf n clock (f i)) ≡ testsOfAll n clock (upward 0 (i + 1) f)
-  unfolding bothOf testsOf testsOfAll
-  tested-more i = λ j.
-      record {
-        accepted = sym (all-upward (λ (o : Order). leb (o .accepted) clock) i f) j;
-        due = sym (all-upward dueInRange i f) j;
-        station = sym (all-upward (stationInUse n) i f) j;
-        costs = sym (all-upward (λ (o : Order). costsInRange n (o .costs)) i f) j;
-        maxima = sym (all-upward (maximaInRange n) i f) j;
-        sum = sym (all-upward sumInRange i f) j;
-        «on_time» = sym (all-upward (onTime n) i f) j;
-        beyond = sym (all-upward (recordZeroBeyond n) i f) j;
-      }
-
   -- The flaws and the ranks gathered so far say whether every order so far passes.
   pub held-none : all (recordHolds n clock) (upward 0 0 f) ≡ (all isZero (replicate 8 0) && zeroBeyond n (replicate 8 0))
   unfolding all upward zeroBeyond

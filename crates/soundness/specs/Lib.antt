@@ -1,3 +1,2 @@
--- The clauses of soundness, by the names that the code gives them.
-pub mod Records
-pub mod Flaw
+-- The clauses of soundness that are asked once the counts are in range.
+pub mod Later

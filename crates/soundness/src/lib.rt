@@ -1,22 +1,21 @@
-// Document 01, "Sound means", for a whole image: every clause, the first that fails, and whether none does.
-pub mod records; // records.rt: the clauses that are asked of each live order
-
+// Document 01, "Sound means", for a whole image: whether every clause holds.
 ghost use mathlib.Core.Path.{_≡_};
 ghost use Prim.Native.Nat.{_≤_};
 ghost use lib.ListN.{length};
 ghost use Rattle.model.specs.Limits.{maxStations, maxLive};
+ghost use Rattle.model.specs.Lists.{all};
 ghost use Rattle.model.specs.Bytes.{byte};
 ghost use Rattle.model.specs.Layout.{imageSize, stationCountAt};
-ghost use Rattle.model.specs.Image.{liveCount};
+ghost use Rattle.model.specs.Image.{liveCount, ordersOf};
 ghost use Rattle.model.specs.Soundness as says;
-ghost use Rattle.soundness.specs.Flaw.{laterClauses, laterHold, flawOf, firstFlaw};
+ghost use Rattle.record_flaws.specs.Holds.{recordHolds};
+ghost use Rattle.soundness.specs.Later.{laterHold};
+use image::decode::order_at;
 use image::decode::services_of;
 use image::layout::CLOCK_AT;
 use image::layout::LIVE_COUNT_AT;
 use image::layout::NEXT_AT;
 use image::layout::STATION_COUNT_AT;
-use image_soundness::services::idle_beyond;
-use image_soundness::services::services_in_order;
 use image_soundness::tickets::tickets_in_order;
 use image_soundness::zeros::unused_records_zero;
 use image_soundness::zeros::zero_bytes_zero;
@@ -24,43 +23,14 @@ use little_endian_reader::u32_at;
 use model::limits::LAST_TICK;
 use model::limits::MAX_LIVE;
 use model::limits::MAX_STATIONS;
-
-// The first clause that fails, in document 01's order.
-pub enum Flaw {
-    Nothing,
-    StationCount,
-    LiveCount,
-    Clock,
-    ZeroBytes,
-    UnusedRecords,
-    Tickets,
-    Acceptance,
-    Due,
-    Station,
-    Costs,
-    Maxima,
-    Sum,
-    OnTime,
-    Beyond,
-    Services,
-}
-
-// The clauses after the counts, in document 01's order.
-pub struct Clauses {
-    pub clock: bool,
-    pub zero_bytes: bool,
-    pub unused_records: bool,
-    pub tickets: bool,
-    pub acceptance: bool,
-    pub due: bool,
-    pub station: bool,
-    pub costs: bool,
-    pub maxima: bool,
-    pub sum: bool,
-    pub on_time: bool,
-    pub beyond: bool,
-    pub services: bool,
-}
+use record_flaws::flaws_with;
+use record_flaws::ranks_with;
+use record_flaws::ticks_hold;
+use row_limits::limits_of;
+use row_soundness::ranks_zero_beyond;
+use row_soundness::zero_beyond;
+use service_soundness::idle_beyond;
+use service_soundness::services_in_order;
 
 fn wide(x: u8) -> u32
     ensures { λ r. ⌜ r ≡ x ⌝ }
@@ -68,100 +38,36 @@ fn wide(x: u8) -> u32
     x as u32
 }
 
-// With the counts in range every record is there to be read, and each clause is what its own function says.
-fn later_clauses(image: &[u8], n: u32, live: usize) -> Clauses
-    requires { ⌜ (length (now image) ≡ imageSize) × (n ≡ byte (now image) stationCountAt) × (live ≡ liveCount (now image)) × (live ≤ maxLive) ⌝ }
-    ensures { λ r. ⌜ r ≡ laterClauses (now (image .entry)) ⌝ }
+// Whether each live order passes every clause. The ticks of a record decide at once, its rows with those of the others after
+// the last. Neither a flaw of the last order alone let through, nor an order
+// refused for a cost of 6,000, meets the promise.
+fn all_hold(image: &[u8], n: u32, live: usize, clock: u32) -> bool
+    requires { ⌜ (length (now image) ≡ imageSize) × (live ≤ maxLive) × (1 ≤ n) × (n ≤ maxStations) ⌝ }
+    ensures { λ r. ⌜ r ≡ all (recordHolds n clock) (ordersOf (now (image .entry)) live) ⌝ }
 {
-    let clock = u32_at(image, CLOCK_AT);
-    let next = u32_at(image, NEXT_AT);
-    let services = services_of(image);
-    let tests = records::all_tested(image, n, live, clock);
-    Clauses {
-        clock: clock <= LAST_TICK,
-        zero_bytes: zero_bytes_zero(image, live),
-        unused_records: unused_records_zero(image, live),
-        tickets: tickets_in_order(image, live, next),
-        acceptance: tests.accepted,
-        due: tests.due,
-        station: tests.station,
-        costs: tests.costs,
-        maxima: tests.maxima,
-        sum: tests.sum,
-        on_time: tests.on_time,
-        beyond: tests.beyond & idle_beyond(n, services),
-        services: services_in_order(image, n, live, services),
+    let limits = limits_of(n);
+    let mut flaws: [u16; 8] = [0; 8];
+    let mut ranks: [u8; 8] = [0; 8];
+    let mut i: usize = 0;
+    while i < live {
+        let o = order_at(image, i);
+        if !ticks_hold(limits, clock, o) {
+            return false;
+        }
+        let more_flaws = flaws_with(flaws, limits, o);
+        flaws = more_flaws;
+        let more_ranks = ranks_with(ranks, o);
+        ranks = more_ranks;
+        i += 1;
     }
+    zero_beyond(0, flaws) & ranks_zero_beyond(n, ranks)
 }
 
-// The first of the clauses after the counts that fails.
-fn flaw_of(c: Clauses) -> Flaw
-    ensures { λ r. ⌜ r ≡ flawOf c ⌝ }
-{
-    if !c.clock {
-        return Flaw::Clock;
-    }
-    if !c.zero_bytes {
-        return Flaw::ZeroBytes;
-    }
-    if !c.unused_records {
-        return Flaw::UnusedRecords;
-    }
-    if !c.tickets {
-        return Flaw::Tickets;
-    }
-    if !c.acceptance {
-        return Flaw::Acceptance;
-    }
-    if !c.due {
-        return Flaw::Due;
-    }
-    if !c.station {
-        return Flaw::Station;
-    }
-    if !c.costs {
-        return Flaw::Costs;
-    }
-    if !c.maxima {
-        return Flaw::Maxima;
-    }
-    if !c.sum {
-        return Flaw::Sum;
-    }
-    if !c.on_time {
-        return Flaw::OnTime;
-    }
-    if !c.beyond {
-        return Flaw::Beyond;
-    }
-    if !c.services {
-        return Flaw::Services;
-    }
-    Flaw::Nothing
-}
-
-// The first clause of soundness that an image of the right length breaks. Neither a later clause named in the place of an
-// earlier one nor a broken one left unnamed meets the promise.
-pub fn first_flaw(image: &[u8]) -> Flaw
-    requires { ⌜ length (now image) ≡ imageSize ⌝ }
-    ensures { λ r. ⌜ r ≡ firstFlaw (now (image .entry)) ⌝ }
-{
-    let n = wide(image[STATION_COUNT_AT]);
-    if (n < 1) | (MAX_STATIONS < n) {
-        return Flaw::StationCount;
-    }
-    let live = image[LIVE_COUNT_AT];
-    if MAX_LIVE < live {
-        return Flaw::LiveCount;
-    }
-    flaw_of(later_clauses(image, n, live as usize))
-}
-
-// The same clauses, where none has to be named. The station entries are read last: a compiler would keep them in memory
-// through the passes over the records.
+// The clauses after the counts: with these in range every record is there to be read. The station entries are read last: a
+// compiler would keep them in memory through the passes over the records.
 fn later_hold(image: &[u8], n: u32, live: usize) -> bool
     requires { ⌜ (length (now image) ≡ imageSize) × (n ≡ byte (now image) stationCountAt) × (live ≡ liveCount (now image)) × (live ≤ maxLive) × (1 ≤ n) × (n ≤ maxStations) ⌝ }
-    ensures { λ r. ⌜ r ≡ laterHold (laterClauses (now (image .entry))) ⌝ }
+    ensures { λ r. ⌜ r ≡ laterHold (now (image .entry)) ⌝ }
 {
     let clock = u32_at(image, CLOCK_AT);
     let next = u32_at(image, NEXT_AT);
@@ -169,7 +75,7 @@ fn later_hold(image: &[u8], n: u32, live: usize) -> bool
         & zero_bytes_zero(image, live)
         & unused_records_zero(image, live)
         & tickets_in_order(image, live, next)
-        & records::all_hold(image, n, live, clock);
+        & all_hold(image, n, live, clock);
     let services = services_of(image);
     orders & idle_beyond(n, services) & services_in_order(image, n, live, services)
 }

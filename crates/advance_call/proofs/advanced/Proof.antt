@@ -62,8 +62,8 @@ returns c =
 number-requires : tie.Need-number-requires
 number-requires c κs = search needs
 
-put-reply-requires-2 : tie.Need-put-reply-requires-2
-put-reply-requires-2 c κs = search needs
+put-decline-requires : tie.Need-put-decline-requires
+put-decline-requires c κs = search needs
 
 same-length-3 : tie.Need-same-length-3
 same-length-3 c = search needs
@@ -76,7 +76,7 @@ returns-2 c =
     let put = c .before .before in
     let number = put .before .before in
     let decode = number .before .before .before in
-    rw (put .put-reply2 .ensures)
+    rw (put .put-decline .ensures)
     (ended _ _ (lent decode) (decode .decode .result) (state-is decode) (carried decode .sound) (number .before .if1 .left) (number .number .result) (number .number .ensures))
 
 pub advanced-spec : {M : Type 1} → statement M
@@ -91,7 +91,7 @@ advanced-spec =
     same-length-2
     returns
     number-requires
-    put-reply-requires-2
+    put-decline-requires
     same-length-3
     same-length-4
     returns-2)

@@ -9,8 +9,8 @@ use Rattle.model.specs.Image.{decode}
 use Rattle.model.specs.Admission.{blockOf, blockQuestions, stateQuestions}
 use Rattle.image.specs.Pipeline.{listed}
 use Rattle.offers.specs.Considered.{Fitting}
-use Rattle.admission.specs.declared.decision.Reply.{Reply}
-use Rattle.admission.specs.Decision.{numberOf}
+use Rattle.decision.specs.declared.Reply.{Reply}
+use Rattle.decision.specs.Decision.{numberOf}
 use Rattle.sound_pipeline.specs.SoundPipeline.{SoundPipeline}
 use Rattle.admission.specs.Answers.{Offers}
 use Rattle.offer_calls.specs.Heard.{Heard}

@@ -24,47 +24,38 @@ narrow-requires c κs = search needs
 loop-holds : tie.Need-loop-holds Inv-loop μ-loop
 loop-holds c = (omega arith, search needs, fill-start _)
 
-mul-c : tie.Need-mul-c Inv-loop μ-loop
-mul-c c = omega arith
-
-array-read-c : tie.Need-array-read-c Inv-loop μ-loop
-array-read-c c = omega arith
-
-mul-m : tie.Need-mul-m Inv-loop μ-loop
-mul-m c = omega arith
-
-array-read-m : tie.Need-array-read-m Inv-loop μ-loop
-array-read-m c = omega arith
-
 mul-row : tie.Need-mul-row Inv-loop μ-loop
 mul-row c = omega arith
 
 array-read-row : tie.Need-array-read-row Inv-loop μ-loop
 array-read-row c = omega arith
 
-mul-above : tie.Need-mul-above Inv-loop μ-loop
-mul-above c = omega arith
+mul-flaw-at : tie.Need-mul-flaw-at Inv-loop μ-loop
+mul-flaw-at c = omega arith
 
-array-read-above : tie.Need-array-read-above Inv-loop μ-loop
-array-read-above c = omega arith
+array-read-flaw-at : tie.Need-array-read-flaw-at Inv-loop μ-loop
+array-read-flaw-at c = omega arith
 
-above-requires : tie.Need-above-requires Inv-loop μ-loop
-above-requires c κs = search needs
+mul-flaw-at-2 : tie.Need-mul-flaw-at-2 Inv-loop μ-loop
+mul-flaw-at-2 c = omega arith
 
-above-requires-2 : tie.Need-above-requires-2 Inv-loop μ-loop
-above-requires-2 c κs = search needs
+array-read-flaw-at-2 : tie.Need-array-read-flaw-at-2 Inv-loop μ-loop
+array-read-flaw-at-2 c = omega arith
 
-mul-above-2 : tie.Need-mul-above-2 Inv-loop μ-loop
-mul-above-2 c = omega arith
+mul-flaw-at-3 : tie.Need-mul-flaw-at-3 Inv-loop μ-loop
+mul-flaw-at-3 c = omega arith
 
-array-read-above-2 : tie.Need-array-read-above-2 Inv-loop μ-loop
-array-read-above-2 c = omega arith
+array-read-flaw-at-3 : tie.Need-array-read-flaw-at-3 Inv-loop μ-loop
+array-read-flaw-at-3 c = omega arith
 
-above-requires-3 : tie.Need-above-requires-3 Inv-loop μ-loop
-above-requires-3 c κs = search needs
+mul-flaw-at-4 : tie.Need-mul-flaw-at-4 Inv-loop μ-loop
+mul-flaw-at-4 c = omega arith
 
-above-requires-4 : tie.Need-above-requires-4 Inv-loop μ-loop
-above-requires-4 c κs = search needs
+array-read-flaw-at-4 : tie.Need-array-read-flaw-at-4 Inv-loop μ-loop
+array-read-flaw-at-4 c = omega arith
+
+flaw-at-requires : tie.Need-flaw-at-requires Inv-loop μ-loop
+flaw-at-requires c κs = search needs
 
 mul-row-2 : tie.Need-mul-row-2 Inv-loop μ-loop
 mul-row-2 c = omega arith
@@ -80,11 +71,7 @@ loop-less c = omega arith
 
 loop-again : tie.Need-loop-again Inv-loop μ-loop
 loop-again c =
-    let inv = c .before .before .before .before .before .loop .inv in (
-      omega arith,
-      simp length-set (inv .1),
-      fill-next _ _ _ _ (omega arith) (inv .2) (rw (c .before .before .before .above .ensures, c .before .before .above2 .ensures, c .before .above3 .ensures, c .above4 .ensures)),
-    )
+    let inv = c .before .before .loop .inv in (omega arith, simp length-set (inv .1), fill-next _ _ _ _ (omega arith) (inv .2) (rw (c .flaw-at .ensures)))
 
 returns : tie.Need-returns Inv-loop μ-loop
 returns c =
@@ -107,20 +94,17 @@ flaws-with-spec =
     μ-loop
     narrow-requires
     loop-holds
-    mul-c
-    array-read-c
-    mul-m
-    array-read-m
     mul-row
     array-read-row
-    mul-above
-    array-read-above
-    above-requires
-    above-requires-2
-    mul-above-2
-    array-read-above-2
-    above-requires-3
-    above-requires-4
+    mul-flaw-at
+    array-read-flaw-at
+    mul-flaw-at-2
+    array-read-flaw-at-2
+    mul-flaw-at-3
+    array-read-flaw-at-3
+    mul-flaw-at-4
+    array-read-flaw-at-4
+    flaw-at-requires
     mul-row-2
     array-write-row
     add-k

@@ -4,7 +4,7 @@ use native.Mathlib.Omega.{arith}
 use borrow.Author.Needs.{needs}
 use Rattle.model.specs.Bytes.{byte}
 use Rattle.model.specs.Layout.{liveCountAt}
-use Rattle.soundness.proofs.FirstLaws.{counts-in-range, counts-unsound, later-sound}
+use Rattle.soundness.proofs.CountLaws.{counts-in-range, counts-unsound, later-sound}
 use Rattle.soundness.proofs.sound.Statement.{statement}
 use Rattle.soundness.proofs.sound.Tie as tie
 

@@ -1,4 +1,4 @@
--- The number first: it tells what may be written. A done call writes the whole image and the whole reply, a decline the reply alone, and 1 nothing.
+-- The number first: it tells what may be written. A done call writes the whole image and the whole reply, a decline at most the reply.
 use mathlib.Core.Path.{_≡_, sym, _∙_}
 use Prim.Native.Nat.{_%_}
 use native.Mathlib.Omega.{arith}
@@ -6,7 +6,7 @@ use denote.Ref.{now}
 use borrow.Author.Needs.{needs}
 use Rattle.model.specs.Image.{encode}
 use Rattle.model.specs.Calls.{openNumber}
-use Rattle.dispatcher.proofs.OpenLaws.{heard, whole, few, unheard, opened, declined}
+use Rattle.dispatcher.proofs.OpenLaws.{heard, replied, whole, few, opened, declined}
 use Rattle.dispatcher.proofs.open.dispatcher_open.Statement.{statement}
 use Rattle.dispatcher.proofs.open.dispatcher_open.Tie as tie
 
@@ -16,32 +16,33 @@ open-answer-requires c κs = search needs
 number-requires : tie.Need-number-requires
 number-requires c κs = search needs
 
+number-is : (c : tie.After-number) → c .number .result ≡ openNumber (c .before .before .before .before .before .before .args .image .now) (c .before .before .before .before .before .before .args .stations) (c .before .before .before .before .before .before .args .reply .now)
+number-is c = c .number .ensures ∙ c .before .open-answer .ensures
+
+put-decline-requires : tie.Need-put-decline-requires
+put-decline-requires c κs other = heard _ _ _ (λ e. other (number-is (c .before .before) ∙ e))
+
 same-length : tie.Need-same-length
 same-length c = search needs
 
 same-length-2 : tie.Need-same-length-2
 same-length-2 c = search needs
 
-number-is : (c : tie.After-number) → c .number .result ≡ openNumber (c .before .before .before .before .before .before .args .image .now) (c .before .before .before .before .before .before .args .stations) (c .before .before .before .before .before .before .args .reply .now)
-number-is c = c .number .ensures ∙ c .before .open-answer .ensures
-
 returns : tie.Need-returns
 returns c =
-    let k = c .before in
-    unheard _ _ _ (k .number .result) (number-is k) (c .if1 .taken)
+    let then = c .before .before .before .before in
+    rw (c .before .before .put-decline .ensures) (declined _ _ _ (then .before .number .result) (number-is (then .before)) (then .if1 .taken))
 
 cast-encode-fresh : tie.Need-cast-encode-fresh
 cast-encode-fresh c = search needs
 
 encode-fresh-requires : tie.Need-encode-fresh-requires
-encode-fresh-requires c κs =
-    let k = c .before .before .before in
-    whole _ _ _ (sym (number-is k) ∙ c .before .if2 .taken)
+encode-fresh-requires c κs = whole _ _ _ (sym (number-is (c .before .before)) ∙ c .before .if1 .left)
 
 put-reply-requires : tie.Need-put-reply-requires
 put-reply-requires c κs =
-    let k = c .before .before .before .before .before .before .before in
-    heard _ _ _ (λ e. c .before .before .before .before .before .before .if1 .left (number-is k ∙ e))
+    let else = c .before .before .before .before .before in
+    replied _ _ _ (sym (number-is (else .before)) ∙ else .if1 .left)
 
 same-length-3 : tie.Need-same-length-3
 same-length-3 c = search needs
@@ -52,27 +53,11 @@ same-length-4 c = search needs
 returns-2 : tie.Need-returns-2
 returns-2 c =
     let encode = c .before .before .before .before .before .before in
-    let then = encode .before .before in
-    let k = then .before .before in
+    let else = encode .before .before in
+    let k = else .before in
     let n = k .before .before .before .before .before .before .args .stations in
-    let low : n % 256 ≡ n = omega (arith, few _ _ _ (sym (number-is k) ∙ then .if2 .taken)) in
-    rw (encode .encode-fresh .ensures, low, c .before .before .put-reply .ensures) (opened _ n _ (k .number .result) (number-is k) (then .if2 .taken))
-
-put-reply-requires-2 : tie.Need-put-reply-requires-2
-put-reply-requires-2 c κs =
-    let k = c .before .before .before in
-    heard _ _ _ (λ e. c .before .before .if1 .left (number-is k ∙ e))
-
-same-length-5 : tie.Need-same-length-5
-same-length-5 c = search needs
-
-same-length-6 : tie.Need-same-length-6
-same-length-6 c = search needs
-
-returns-3 : tie.Need-returns-3
-returns-3 c =
-    let k = c .before .before .before .before .before .before in
-    rw (c .before .before .put-reply2 .ensures) (declined _ _ _ (k .number .result) (number-is k) (c .before .before .before .before .if2 .left) (c .before .before .before .before .before .if1 .left))
+    let low : n % 256 ≡ n = omega (arith, few _ _ _ (sym (number-is k) ∙ else .if1 .left)) in
+    rw (encode .encode-fresh .ensures, low, c .before .before .put-reply .ensures) (opened _ n _ (k .number .result) (number-is k) (else .if1 .left))
 
 pub dispatcher-open-spec : {M : Type 1} → statement M
 dispatcher-open-spec =
@@ -80,6 +65,7 @@ dispatcher-open-spec =
     (tie.spec
     open-answer-requires
     number-requires
+    put-decline-requires
     same-length
     same-length-2
     returns
@@ -88,8 +74,4 @@ dispatcher-open-spec =
     put-reply-requires
     same-length-3
     same-length-4
-    returns-2
-    put-reply-requires-2
-    same-length-5
-    same-length-6
-    returns-3)
+    returns-2)

@@ -1,0 +1,2 @@
+-- The calls by their numbers.
+pub mod Declines

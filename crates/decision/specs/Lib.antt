@@ -1,0 +1,2 @@
+-- What the answers to an offer say.
+pub mod Decision

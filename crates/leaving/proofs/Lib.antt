@@ -1,0 +1,2 @@
+-- The loop over the live orders.
+pub mod LeaveLaws

@@ -1,0 +1,2 @@
+-- The orders that are not out.
+pub mod Remaining

@@ -1,0 +1,2 @@
+-- Laws of the marks.
+pub mod Marks
