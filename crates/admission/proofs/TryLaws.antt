@@ -2,7 +2,6 @@
 use mathlib.Core.Path.{_≡_, refl, sym, ap, _∙_}
 use mathlib.Core.Bool.{Bool, true, false, not, cond, _||_}
 use mathlib.Core.List.{[], _∷_, map}
-use Prim.Native.Nat.{_-_}
 use lib.ListN.{drop}
 use lib.IntN.{ℤ, pos}
 use lib.Signed.{ltZ}

@@ -8,7 +8,7 @@ ghost use Rattle.dispatch.specs.Advanced.{advanced};
 use image::Pipeline;
 use image::wide;
 use leaving::leave;
-use selection::started;
+use starting::started;
 use station_entries::tick::tick_all;
 use station_entries::vacate::ticket_out;
 use station_entries::vacate::vacate_all;

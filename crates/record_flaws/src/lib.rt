@@ -55,7 +55,7 @@ pub fn ticks_hold(l: Limits, clock: u32, o: Order) -> bool
 }
 
 // What is wrong at one place: by how much a cost is below the least, above its maximum or above the sum, and a maximum above
-// the most. Neither a cost of 0 at a station nor a cost above its maximum let through meets the promise.
+// the most.
 fn flaw_at(least: u16, most: u16, cost: u16, maximum: u16, sum: u16) -> u16
     ensures { λ r. ⌜ r ≡ flawAt least most cost maximum sum ⌝ }
 {
@@ -63,8 +63,8 @@ fn flaw_at(least: u16, most: u16, cost: u16, maximum: u16, sum: u16) -> u16
 }
 
 // The flaws of the rows so far with those of one record more. 0 at a place says that every cost there is at least the
-// least, every maximum at least the cost and at most the most, and every sum at least the cost. Neither the flaws of the last
-// record alone nor a place left out meets the promise.
+// least, every maximum at least the cost and at most the most, and every sum at least the cost. Neither a cost of 0 at a
+// station nor a cost above its maximum let through meets the promise.
 pub fn flaws_with(flaws: [u16; 8], l: Limits, o: Order) -> [u16; 8]
     requires { ⌜ Made l ⌝ }
     ensures { λ r. ⌜ all isZero r ≡ (all isZero flaws && rowsHold (l .n) o) ⌝ }

@@ -1,3 +1,2 @@
--- Laws of the candidates: with one order more, and as the starts of the definition.
+-- Laws of the candidates, with one order more.
 pub mod CandidateLaws
-pub mod StartLaws

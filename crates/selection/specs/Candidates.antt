@@ -1,5 +1,5 @@
 -- Document 01, "Each idle station with waiting orders starts the one with the smallest rank there; equal ranks go by the smaller ticket", as code goes
--- about it: for each station the order that would start there, and the start with it.
+-- about it: for each station the order that would start there.
 use mathlib.Core.Bool.{Bool, cond, _||_}
 use mathlib.Core.List.{List}
 use mathlib.Core.Option.{Option, none, some}
@@ -48,10 +48,3 @@ before rank ticket otherRank otherTicket = cond (eqb rank otherRank) (ltb ticket
 -- Of two candidates, the second of whom may be nobody, the one that goes first.
 unfoldable pub preferred : Candidate → Candidate → Candidate
 preferred one other = cond (isZero (other .ticket) || before (one .rank) (one .ticket) (other .rank) (other .ticket)) one other
-
--- The entry of a station once its candidate has started, if it was idle.
-unfoldable pub startWith : Candidate → Service → Service
-startWith c e = cond (isZero (e .ticket)) (record { ticket = c .ticket; left = c .left }) e
-
-unfoldable pub startAll : List Candidate → List Service → List Service
-startAll found services = numbered (λ k e. startWith (at nobody found k) e) 1 services

@@ -1,4 +1,4 @@
-// Who starts: for each station the order that goes first there, and the starts of the idle stations.
+// Who starts: for each idle station the order that goes first there.
 ghost use mathlib.Core.Path.{_≡_};
 ghost use mathlib.Core.List.{map};
 ghost use mathlib.Core.Option.{some};
@@ -6,7 +6,7 @@ ghost use Prim.Native.Nat.{suc, _<_};
 ghost use lib.ListN.{take};
 ghost use Rattle.model.specs.Limits.{maxStations};
 ghost use Rattle.model.specs.Tick as tick;
-ghost use Rattle.selection.specs.Candidates.{Queue, candidateOf, startWith, startAll};
+ghost use Rattle.selection.specs.Candidates.{Queue, candidateOf};
 ghost use Rattle.selection.specs.Candidates as defined;
 use model::Order;
 use model::Service;
@@ -55,7 +55,7 @@ fn candidate_at(o: Order, i: usize) -> Candidate
 
 // Goes once over the live orders, from the last to the first: each is tried at its own station alone, if that is idle. Neither
 // a live order that is passed over nor one that is tried at another station meets the promise.
-fn candidates(services: [Service; 8], orders: [Order; 32], live: usize) -> [Candidate; 8]
+pub fn candidates(services: [Service; 8], orders: [Order; 32], live: usize) -> [Candidate; 8]
     requires { ⌜ Queue orders live ⌝ }
     ensures { λ r. ⌜ r ≡ defined.candidates (map tick.view (take live orders)) services ⌝ }
 {
@@ -75,38 +75,4 @@ fn candidates(services: [Service; 8], orders: [Order; 32], live: usize) -> [Cand
         }
     }
     found
-}
-
-fn start_with(c: Candidate, e: Service) -> Service
-    ensures { λ r. ⌜ r ≡ startWith c e ⌝ }
-{
-    if e.ticket == 0 {
-        Service {
-            ticket: c.ticket,
-            left: c.left,
-        }
-    } else {
-        e
-    }
-}
-
-fn start_all(found: [Candidate; 8], services: [Service; 8]) -> [Service; 8]
-    ensures { λ r. ⌜ r ≡ startAll found services ⌝ }
-{
-    let mut list = [Service { ticket: 0, left: 0 }; 8];
-    let mut k: usize = 0;
-    while k < 8 {
-        list[k] = start_with(found[k], services[k]);
-        k += 1;
-    }
-    list
-}
-
-// The entries once each idle station with waiting orders has started one. Neither a start at a busy station nor another
-// station's cost as the ticks to go meets the promise.
-pub fn started(services: [Service; 8], orders: [Order; 32], live: usize) -> [Service; 8]
-    requires { ⌜ Queue orders live ⌝ }
-    ensures { λ r. ⌜ r ≡ tick.startEach (map tick.view (take live orders)) services ⌝ }
-{
-    start_all(candidates(services, orders, live), services)
 }

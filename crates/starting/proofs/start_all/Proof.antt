@@ -7,10 +7,11 @@ use borrow.Author.Needs.{needs}
 use Rattle.model.specs.Lists.{upward}
 use Rattle.model.specs.State.{idle}
 use Rattle.lists.proofs.Fills.{fill-start, fill-next, fill-end}
-use Rattle.selection.specs.Candidates.{nobody, startWith}
-use Rattle.selection.proofs.StartLaws.{each-start}
-use Rattle.selection.proofs.start_all.Statement.{statement}
-use Rattle.selection.proofs.start_all.Tie as tie
+use Rattle.selection.specs.Candidates.{nobody}
+use Rattle.starting.specs.Starts.{startWith}
+use Rattle.starting.proofs.StartLaws.{each-start}
+use Rattle.starting.proofs.start_all.Statement.{statement}
+use Rattle.starting.proofs.start_all.Tie as tie
 
 abbrev Inv-loop : tie.InvT-loop
 Inv-loop found services list₀ k₀ list k = (k ≤ 8) × (length list ≡ 8) × (take k list ≡ upward 0 k (λ i. startWith (getD found i nobody) (getD services i idle)))

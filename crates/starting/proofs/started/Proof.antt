@@ -2,11 +2,11 @@
 use mathlib.Core.Path.{ap, _∙_}
 use mathlib.Core.List.{List}
 use borrow.Author.Needs.{needs}
 use Rattle.selection.specs.declared.Candidate.{Candidate}
-use Rattle.selection.specs.Candidates.{startAll}
-use Rattle.selection.proofs.StartLaws.{starts-all}
-use Rattle.selection.proofs.started.Statement.{statement}
-use Rattle.selection.proofs.started.Tie as tie
+use Rattle.starting.specs.Starts.{startAll}
+use Rattle.starting.proofs.StartLaws.{starts-all}
+use Rattle.starting.proofs.started.Statement.{statement}
+use Rattle.starting.proofs.started.Tie as tie
 
 candidates-requires : tie.Need-candidates-requires
 candidates-requires c κs = search needs

@@ -13,9 +13,10 @@ use Rattle.model.specs.State.{idle}
 use Rattle.model.specs.Tick.{View, first, entryOf, startAt, startEach}
 use Rattle.lists.proofs.Fills.{length-upward, getD-upward}
 use Rattle.lists.proofs.Tests.{either, is-numbered, getD-numbered, length-numbered}
 use Rattle.selection.specs.declared.Candidate.{Candidate}
-use Rattle.selection.specs.Candidates.{nobody, candidateOf, candidateFor, candidates, startWith, startAll}
+use Rattle.selection.specs.Candidates.{nobody, candidateOf, candidateFor, candidates}
+use Rattle.starting.specs.Starts.{startWith, startAll}
 use Rattle.selection.proofs.CandidateLaws.{candidates-at}
 
 pub each-start : (found : List Candidate) (services : List Service) → length services ≡ maxStations → upward 0 maxStations (λ i. startWith (getD found i nobody) (getD services i idle)) ≡ startAll found services
 unfolding startAll

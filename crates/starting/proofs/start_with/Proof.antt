@@ -1,8 +1,8 @@
 -- By the test.
 use borrow.Author.Tests.{ne-eqb}
-use Rattle.selection.specs.Candidates.{startWith}
-use Rattle.selection.proofs.start_with.Statement.{statement}
-use Rattle.selection.proofs.start_with.Tie as tie
+use Rattle.starting.specs.Starts.{startWith}
+use Rattle.starting.proofs.start_with.Statement.{statement}
+use Rattle.starting.proofs.start_with.Tie as tie
 
 returns : tie.Need-returns
 unfolding startWith

@@ -1,0 +1,2 @@
+-- Starts with the candidates as the starts of the definition.
+pub mod StartLaws

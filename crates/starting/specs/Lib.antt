@@ -1,0 +1,2 @@
+-- Starts with the candidates.
+pub mod Starts
