@@ -13,7 +13,9 @@ ghost use Rattle.admission.specs.Answers.{Offers};
 use decision::Decision;
 use decision::decide;
 use image::Pipeline;
+use image::unused_order;
 use image::wide;
+use image::wide32;
 use margins::Tried;
 use margins::try_all;
 use model::Block;
@@ -28,12 +30,6 @@ use row_limits::limits_of;
 pub struct Offered {
     pub decision: Decision,
     pub arrival: Order,
-}
-
-fn wide32(x: u8) -> u32
-    ensures { λ r. ⌜ r ≡ x ⌝ }
-{
-    x as u32
 }
 
 fn wide64(x: u32) -> u64
@@ -68,16 +64,7 @@ fn declined(decision: Decision) -> Offered
 {
     Offered {
         decision: decision,
-        arrival: Order {
-            ticket: 0,
-            accepted: 0,
-            due: 0,
-            sum: 0,
-            station: 0,
-            ranks: [0; 8],
-            costs: [0; 8],
-            maxima: [0; 8],
-        },
+        arrival: unused_order(),
     }
 }
 

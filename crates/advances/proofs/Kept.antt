@@ -6,9 +6,9 @@ use borrow.Author.Tests.{ne-eqb}
 use Rattle.model.specs.Tick.{advance}
 use Rattle.model.specs.Image.{decode, encode}
 use Rattle.model.specs.Calls.{advanceNumber, advanceCall, result}
-use Rattle.roundtrip.proofs.Written.{decode-encode, encode-length, encode-bytes, encode-marked}
 use Rattle.roundtrip.proofs.Read.{decode-byte-ranks}
-use Rattle.roundtrip.proofs.Sound.{sound-gives, gives-sound}
+use Rattle.roundtrip.proofs.Sound.{sound-gives}
+use Rattle.roundtrip.proofs.SoundImage.{sound-image}
 use Rattle.advances.specs.Kept.{AdvanceKeepsSound, AdvanceDeclineLeaves}
 use Rattle.advances.proofs.Exact.{advance-numbers}
 use Rattle.advances.proofs.Advance.{advance-byte-ranks, advance-sound}
@@ -24,14 +24,7 @@ advance-keeps-sound image reply bytes done =
     let h = advance-sound (decode image) before (t .1) in
     let s = advance (decode image) in
     let ranks = advance-byte-ranks (decode image) (decode-byte-ranks image bytes) in
-    rw (done-image image reply done)
-    (record {
-      whole = encode-length s (h .in-range);
-      bytes = encode-bytes s (h .in-range) ranks;
-      is-marked = encode-marked s;
-      is-sound = gives-sound s h;
-      says = decode-encode s (h .in-range);
-    })
+    rw (done-image image reply done) (sound-image s h ranks)
 
 pub advance-decline-leaves : AdvanceDeclineLeaves
 unfolding advanceCall result

@@ -1,33 +1,23 @@
 -- What an advance leaves in the state and in the image.
 use mathlib.Core.Path.{_≡_}
-use mathlib.Core.Bool.{true}
 use mathlib.Core.List.{List}
 use Prim.Native.Nat.{ℕ, _<_}
-use lib.ListN.{length}
 use Rattle.model.specs.Limits.{lastTick}
 use Rattle.model.specs.State.{State}
 use Rattle.model.specs.Tick.{advance}
-use Rattle.model.specs.Layout.{imageSize}
-use Rattle.model.specs.Image.{marked, decode}
-use Rattle.model.specs.Soundness.{sound}
+use Rattle.model.specs.Image.{decode}
 use Rattle.model.specs.Calls.{advanceNumber, advanceCall}
 use Rattle.roundtrip.specs.InRange.{byteLimit, Below}
 use Rattle.roundtrip.specs.SoundFacts.{SoundInRange}
+use Rattle.roundtrip.specs.SoundImage.{SoundImage}
 
 -- The course of one tick leaves a sound state, from every sound state whose clock has not come to its end.
 abbrev pub AdvanceSound : Type 0
 AdvanceSound = (s : State) → SoundInRange s → s .clock < lastTick → SoundInRange (advance s)
 
 -- A done advance leaves a whole, marked and sound image, which says the state after the tick.
-pub record Advanced (image left : List ℕ) : Type 0 where
-  pub whole : length left ≡ imageSize
-  pub bytes : Below byteLimit left
-  pub is-marked : marked left ≡ true
-  pub is-sound : sound left ≡ true
-  pub says : decode left ≡ advance (decode image)
-
 abbrev pub AdvanceKeepsSound : Type 0
-AdvanceKeepsSound = (image reply : List ℕ) → Below byteLimit image → advanceNumber image reply ≡ 0 → Advanced image (advanceCall image reply .image)
+AdvanceKeepsSound = (image reply : List ℕ) → Below byteLimit image → advanceNumber image reply ≡ 0 → SoundImage (advanceCall image reply .image) (advance (decode image))
 
 -- "Every decline leaves the image alone."
 abbrev pub AdvanceDeclineLeaves : Type 0

@@ -9,7 +9,7 @@ use call_results::put_decline;
 pub extern "C" fn dispatcher_advance(image: &mut [u8], reply: &mut [u8]) -> u32
     ensures { λ r. ⌜ Gives (advanceCall (now (image .entry)) (now (reply .entry))) r (now (image .exit)) (now (reply .exit)) ⌝ }
 {
-    let number = questions::first_number(image, reply);
+    let number = questions::number_to(image, reply);
     if number != 0 {
         put_decline(reply, number);
         return number;

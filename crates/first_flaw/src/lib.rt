@@ -15,6 +15,7 @@ use image::layout::CLOCK_AT;
 use image::layout::LIVE_COUNT_AT;
 use image::layout::NEXT_AT;
 use image::layout::STATION_COUNT_AT;
+use image::wide32;
 use image_soundness::tickets::tickets_in_order;
 use image_soundness::zeros::unused_records_zero;
 use image_soundness::zeros::zero_bytes_zero;
@@ -63,12 +64,6 @@ pub struct Clauses {
     pub on_time: bool,
     pub beyond: bool,
     pub services: bool,
-}
-
-fn wide(x: u8) -> u32
-    ensures { λ r. ⌜ r ≡ x ⌝ }
-{
-    x as u32
 }
 
 // The clauses that are asked of each live order, over all of them in one pass. Neither a clause that the last order alone
@@ -174,7 +169,7 @@ pub fn first_flaw(image: &[u8]) -> Flaw
     requires { ⌜ length (now image) ≡ imageSize ⌝ }
     ensures { λ r. ⌜ r ≡ firstFlaw (now (image .entry)) ⌝ }
 {
-    let n = wide(image[STATION_COUNT_AT]);
+    let n = wide32(image[STATION_COUNT_AT]);
     if (n < 1) | (MAX_STATIONS < n) {
         return Flaw::StationCount;
     }

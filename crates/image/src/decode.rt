@@ -30,6 +30,7 @@ use super::layout::SUM_AT;
 use super::layout::TICKET_AT;
 use super::unused_orders;
 use super::wide;
+use super::wide32;
 use little_endian_reader::eight_bytes_at;
 use little_endian_reader::eight_halves_at;
 use little_endian_reader::u16_at;
@@ -82,12 +83,6 @@ pub fn order_at(image: &[u8], i: usize) -> Order
 {
     let at = RECORDS_AT + RECORD_SIZE * i;
     order_of(&image[at..at + RECORD_SIZE])
-}
-
-fn wide32(x: u8) -> u32
-    ensures { λ r. ⌜ r ≡ x ⌝ }
-{
-    x as u32
 }
 
 pub fn services_of(image: &[u8]) -> [Service; 8]

@@ -19,11 +19,11 @@ pub struct Pipeline {
     pub orders: [Order; 32],
 }
 
-// Records as they are where no order is.
-pub fn unused_orders() -> [Order; 32]
-    ensures { λ r. ⌜ r ≡ replicate maxLive unused ⌝ }
+// A record as it is where no order is, and 32 of them.
+pub fn unused_order() -> Order
+    ensures { λ r. ⌜ r ≡ unused ⌝ }
 {
-    [Order {
+    Order {
         ticket: 0,
         accepted: 0,
         due: 0,
@@ -32,11 +32,24 @@ pub fn unused_orders() -> [Order; 32]
         ranks: [0; 8],
         costs: [0; 8],
         maxima: [0; 8],
-    }; 32]
+    }
+}
+
+pub fn unused_orders() -> [Order; 32]
+    ensures { λ r. ⌜ r ≡ replicate maxLive unused ⌝ }
+{
+    let o = unused_order();
+    [o; 32]
 }
 
 pub fn wide(x: u8) -> usize
     ensures { λ r. ⌜ r ≡ x ⌝ }
 {
     x as usize
+}
+
+pub fn wide32(x: u8) -> u32
+    ensures { λ r. ⌜ r ≡ x ⌝ }
+{
+    x as u32
 }

@@ -6,8 +6,8 @@ ghost use lib.ListN.{take};
 ghost use lib.Dec.{eqb};
 ghost use Rattle.model.specs.Limits.{maxStations, maxLive};
 ghost use Rattle.model.specs.Lists.{isZero, any};
-ghost use Rattle.image.specs.Pipeline.{unused};
 ghost use Rattle.leaving.specs.Remaining.{finishes, movedBy, remaining, Held, holding, clearedTo};
+use image::unused_order;
 use model::Order;
 use model::Service;
 
@@ -52,21 +52,6 @@ fn settled(services: [Service; 8], live: usize) -> usize
     ensures { λ r. ⌜ r ≡ cond (any finishes services) 0 live ⌝ }
 {
     if any_leaves(services) { 0 } else { live }
-}
-
-fn unused_order() -> Order
-    ensures { λ r. ⌜ r ≡ unused ⌝ }
-{
-    Order {
-        ticket: 0,
-        accepted: 0,
-        due: 0,
-        sum: 0,
-        station: 0,
-        ranks: [0; 8],
-        costs: [0; 8],
-        maxima: [0; 8],
-    }
 }
 
 // The live records from place `kept` on become unused.

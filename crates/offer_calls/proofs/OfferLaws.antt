@@ -1,5 +1,5 @@
 -- What the first five questions of an offer tell, and the call by its number.
-use mathlib.Core.Path.{_≡_, refl, _∙_}
+use mathlib.Core.Path.{_≡_, refl, sym, _∙_}
 use mathlib.Core.Bool.{Bool, true, false}
 use mathlib.Core.List.{List, [], _∷_, _++_}
 use Prim.Native.Nat.{ℕ, _≤_}
@@ -14,8 +14,8 @@ use Rattle.model.specs.Soundness.{sound}
 use Rattle.model.specs.Questions.{Question, _else_, firstNo, zeros}
 use Rattle.model.specs.Admission.{blockOf, blockLengthQuestion, blockQuestions, stateQuestions, orderQuestions, offerAnswer, quoteAnswer}
 use Rattle.model.specs.Calls.{replyQuestion, lengthQuestion, imageQuestions, offerNumber, offerCall, quoteCall}
-use Rattle.lists.proofs.Tests.{and-both}
-use Rattle.roundtrip.proofs.Questions.{answer, gives-other, decides, passed, after}
+use Rattle.lists.proofs.Tests.{and-both, all-append}
+use Rattle.roundtrip.proofs.Questions.{answer, gives-other, decides, passed, after, four-say}
 use Rattle.call_results.specs.Gives.{Gives}
 use Rattle.call_results.specs.Declined.{declinedReply}
 use Rattle.call_results.proofs.Declines.{declines}
@@ -56,16 +56,12 @@ module _ (image block reply : List ℕ) where
   four-yes k zero e = e ∙ after four (blockLengthQuestion block ∷ []) (passed four refl zero)
 
   pub heard : firstNo (replyQuestion reply ∷ imageQuestions image ++ (blockLengthQuestion block ∷ [])) ≡ 0 → Heard image block reply
-  unfolding five all answer gives-other replyQuestion imageQuestions lengthQuestion blockLengthQuestion
+  unfolding four five all answer gives-other replyQuestion imageQuestions lengthQuestion blockLengthQuestion
   heard e =
-      let t1 = and-both (eqb (length reply) replySize) _ (passed five refl e) in
-      let t2 = and-both (eqb (length image) imageSize) _ (t1 .1) in
-      let t3 = and-both (marked image) _ (t2 .1) in
-      let t4 = and-both (sound image) _ (t3 .1) in
-      let t5 = and-both (eqb (length block) blockSize) true (t4 .1) in
+      let parts = and-both (all answer four) (all answer (blockLengthQuestion block ∷ [])) (sym (all-append answer four (blockLengthQuestion block ∷ [])) ∙ passed five refl e) in
       record {
-        usable = record { reply-whole = eqb-true (length reply) replySize (t1 .0); image-whole = eqb-true (length image) imageSize (t2 .0); image-marked = t3 .0; image-sound = t4 .0 };
-        block-whole = eqb-true (length block) blockSize (t5 .0);
+        usable = four-say image reply .tells (parts .0);
+        block-whole = eqb-true (length block) blockSize (and-both (eqb (length block) blockSize) true (parts .1) .0);
       }
 
   -- The call by its number, where one of the first five says "no".

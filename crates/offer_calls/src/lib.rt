@@ -21,7 +21,7 @@ use questions::Answer;
 pub fn first_number(image: &[u8], order: &[u8], reply: &[u8]) -> u32
     ensures { λ r. ⌜ r ≡ firstNo (replyQuestion (now (reply .entry)) ∷ imageQuestions (now (image .entry)) ++ (blockLengthQuestion (now (order .entry)) ∷ [])) ⌝ }
 {
-    let number = questions::first_number(image, reply);
+    let number = questions::number_to(image, reply);
     if number != 0 {
         return number;
     }

@@ -12,9 +12,9 @@ use Rattle.model.specs.Calls.{offerNumber, offerCall, quoteCall, result}
 use Rattle.schedule.proofs.Laws.{by-cond}
 use Rattle.roundtrip.specs.InRange.{byteLimit, Below}
 use Rattle.roundtrip.proofs.Parts.{bytes-below}
-use Rattle.roundtrip.proofs.Written.{decode-encode, encode-length, encode-bytes, encode-marked}
 use Rattle.roundtrip.proofs.Read.{decode-byte-ranks}
-use Rattle.roundtrip.proofs.Sound.{sound-gives, gives-sound}
+use Rattle.roundtrip.proofs.Sound.{sound-gives}
+use Rattle.roundtrip.proofs.SoundImage.{sound-image}
 use Rattle.offers.specs.Kept.{OfferKeepsSound, DeclineLeaves, QuoteGivesOffer}
 use Rattle.offers.proofs.Questions.{eight-ranks, eight-costs}
 use Rattle.offers.proofs.Exact.{exact}
@@ -35,14 +35,7 @@ offer-keeps-sound image block reply image-bytes block-bytes done =
     let h = accept-sound (decode image) (blockOf block) before (t .0 .fitting) (t .1) (t .2) (eight-ranks block) (eight-costs block) in
     let s = accept (decode image) (blockOf block) in
     let ranks = accept-byte-ranks (decode image) (blockOf block) (decode-byte-ranks image image-bytes) (block-ranks block block-bytes) in
-    rw (done-image image block reply done)
-    (record {
-      whole = encode-length s (h .in-range);
-      bytes = encode-bytes s (h .in-range) ranks;
-      is-marked = encode-marked s;
-      is-sound = gives-sound s h;
-      says = decode-encode s (h .in-range);
-    })
+    rw (done-image image block reply done) (sound-image s h ranks)
 
 pub decline-leaves : DeclineLeaves
 unfolding offerCall result

@@ -1,28 +1,21 @@
 -- What an offer and a quote leave in the image and in the reply.
 use mathlib.Core.Path.{_≡_}
-use mathlib.Core.Bool.{true}
 use mathlib.Core.List.{List, _++_}
 use Prim.Native.Nat.{ℕ}
-use lib.ListN.{length, take, drop}
+use lib.ListN.{take, drop}
 use Rattle.model.specs.Bytes.{fourBytes}
-use Rattle.model.specs.Layout.{imageSize, replyTicketAt, replyTickAt}
-use Rattle.model.specs.Image.{marked, decode}
-use Rattle.model.specs.Soundness.{sound}
+use Rattle.model.specs.Layout.{replyTicketAt, replyTickAt}
+use Rattle.model.specs.Image.{decode}
 use Rattle.model.specs.Admission.{blockOf, accept}
 use Rattle.model.specs.Calls.{offerNumber, offerCall, quoteCall}
 use Rattle.roundtrip.specs.InRange.{byteLimit, Below}
+use Rattle.roundtrip.specs.SoundImage.{SoundImage}
 
 -- A done offer leaves a whole, marked and sound image, which says the state with the arrival accepted.
-pub record Accepted (image block left : List ℕ) : Type 0 where
-  pub whole : length left ≡ imageSize
-  pub bytes : Below byteLimit left
-  pub is-marked : marked left ≡ true
-  pub is-sound : sound left ≡ true
-  pub says : decode left ≡ accept (decode image) (blockOf block)
-
 abbrev pub OfferKeepsSound : Type 0
 OfferKeepsSound =
-    (image block reply : List ℕ) → Below byteLimit image → Below byteLimit block → offerNumber image block reply ≡ 0 → Accepted image block (offerCall image block reply .image)
+    (image block reply : List ℕ) → Below byteLimit image → Below byteLimit block → offerNumber image block reply ≡ 0
+    → SoundImage (offerCall image block reply .image) (accept (decode image) (blockOf block))
 
 -- "Every decline leaves the image alone."
 abbrev pub DeclineLeaves : Type 0

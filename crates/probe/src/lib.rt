@@ -13,7 +13,7 @@ use model::limits::MAX_LIVE;
 pub extern "C" fn probe_number(image: &[u8], reply: &[u8]) -> u32
     ensures { λ r. ⌜ r ≡ firstNo (replyQuestion (now (reply .entry)) ∷ imageQuestions (now (image .entry))) ⌝ }
 {
-    questions::number(questions::answer_to(image, reply))
+    questions::number_to(image, reply)
 }
 
 // Decodes an image and encodes what it says; 2 and 4 are declines, which change nothing.

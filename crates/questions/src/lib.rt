@@ -85,7 +85,7 @@ pub fn answer_to(image: &[u8], reply: &[u8]) -> Answer
 }
 
 // Document 01's number for questions 1 to 4. A "no" to question 4 given as 3 does not meet the promise.
-pub fn first_number(image: &[u8], reply: &[u8]) -> u32
+pub fn number_to(image: &[u8], reply: &[u8]) -> u32
     ensures { λ r. ⌜ r ≡ firstNo (replyQuestion (now (reply .entry)) ∷ imageQuestions (now (image .entry))) ⌝ }
 {
     number(answer_to(image, reply))

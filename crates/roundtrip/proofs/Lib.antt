@@ -12,4 +12,5 @@ pub mod Facts
 pub mod Sound
 pub mod Fits
 pub mod Fresh
+pub mod SoundImage
 pub mod Questions

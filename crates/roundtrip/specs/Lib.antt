@@ -4,4 +4,5 @@ pub mod InRange
 pub mod RoundTrip
 pub mod SoundFacts
 pub mod Fresh
+pub mod SoundImage
 pub mod Usable

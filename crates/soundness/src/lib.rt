@@ -16,6 +16,7 @@ use image::layout::CLOCK_AT;
 use image::layout::LIVE_COUNT_AT;
 use image::layout::NEXT_AT;
 use image::layout::STATION_COUNT_AT;
+use image::wide32;
 use image_soundness::tickets::tickets_in_order;
 use image_soundness::zeros::unused_records_zero;
 use image_soundness::zeros::zero_bytes_zero;
@@ -32,15 +33,8 @@ use row_soundness::zero_beyond;
 use service_soundness::idle_beyond;
 use service_soundness::services_in_order;
 
-fn wide(x: u8) -> u32
-    ensures { λ r. ⌜ r ≡ x ⌝ }
-{
-    x as u32
-}
-
 // Whether each live order passes every clause. The ticks of a record decide at once, its rows with those of the others after
-// the last. Neither a flaw of the last order alone let through, nor an order
-// refused for a cost of 6,000, meets the promise.
+// the last. Neither a flaw of the last order alone let through, nor an order refused for a cost of 6,000, meets the promise.
 fn all_hold(image: &[u8], n: u32, live: usize, clock: u32) -> bool
     requires { ⌜ (length (now image) ≡ imageSize) × (live ≤ maxLive) × (1 ≤ n) × (n ≤ maxStations) ⌝ }
     ensures { λ r. ⌜ r ≡ all (recordHolds n clock) (ordersOf (now (image .entry)) live) ⌝ }
@@ -86,7 +80,7 @@ pub fn sound(image: &[u8]) -> bool
     requires { ⌜ length (now image) ≡ imageSize ⌝ }
     ensures { λ r. ⌜ r ≡ says.sound (now (image .entry)) ⌝ }
 {
-    let n = wide(image[STATION_COUNT_AT]);
+    let n = wide32(image[STATION_COUNT_AT]);
     let live = image[LIVE_COUNT_AT];
     if (n < 1) | (MAX_STATIONS < n) | (MAX_LIVE < live) {
         return false;

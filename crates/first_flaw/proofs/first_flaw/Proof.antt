@@ -7,20 +7,20 @@ use Rattle.first_flaw.proofs.FirstLaws.{count-flaw, live-flaw, later-fl
 use Rattle.first_flaw.proofs.first_flaw.Statement.{statement}
 use Rattle.first_flaw.proofs.first_flaw.Tie as tie
 
-shared-slice-read-wide : tie.Need-shared-slice-read-wide
-shared-slice-read-wide c = search needs
+shared-slice-read-wide32 : tie.Need-shared-slice-read-wide32
+shared-slice-read-wide32 c = search needs
 
-wide-requires : tie.Need-wide-requires
-wide-requires c κs = search needs
+wide32-requires : tie.Need-wide32-requires
+wide32-requires c κs = search needs
 
 returns : tie.Need-returns
-returns c = count-flaw _ (c .before .wide .ensures) (c .if1 .taken)
+returns c = count-flaw _ (c .before .wide32 .ensures) (c .if1 .taken)
 
 shared-slice-read-live : tie.Need-shared-slice-read-live
 shared-slice-read-live c = search needs
 
 returns-2 : tie.Need-returns-2
-returns-2 c = live-flaw _ (c .before .before .before .wide .ensures) (c .before .before .if1 .left) (omega arith)
+returns-2 c = live-flaw _ (c .before .before .before .wide32 .ensures) (c .before .before .if1 .left) (omega arith)
 
 cast-later-clauses : tie.Need-cast-later-clauses
 cast-later-clauses c = search needs
@@ -32,14 +32,14 @@ flaw-of-requires : tie.Need-flaw-of-requires
 flaw-of-requires c κs = search needs
 
 returns-3 : tie.Need-returns-3
-returns-3 c = c .flaw-of .ensures ∙ ap flawOf (c .before .later-clauses .ensures) ∙ later-flaw _ (c .before .before .before .before .before .wide .ensures) (c .before .before .before .before .if1 .left) (omega arith)
+returns-3 c = c .flaw-of .ensures ∙ ap flawOf (c .before .later-clauses .ensures) ∙ later-flaw _ (c .before .before .before .before .before .wide32 .ensures) (c .before .before .before .before .if1 .left) (omega arith)
 
 pub first-flaw-spec : {M : Type 1} → statement M
 first-flaw-spec =
     tie.close
     (tie.spec
-    shared-slice-read-wide
-    wide-requires
+    shared-slice-read-wide32
+    wide32-requires
     returns
     shared-slice-read-live
     returns-2

@@ -6,13 +6,13 @@ use Rattle.advance_call.proofs.AdvanceLaws.{usable, declined}
 use Rattle.dispatcher.proofs.advance.dispatcher_advance.Statement.{statement}
 use Rattle.dispatcher.proofs.advance.dispatcher_advance.Tie as tie
 
-first-number-requires : tie.Need-first-number-requires
-first-number-requires c κs = search needs
+number-to-requires : tie.Need-number-to-requires
+number-to-requires c κs = search needs
 
 put-decline-requires : tie.Need-put-decline-requires
 put-decline-requires c κs other =
     let number = c .before .before in
-    replied _ _ (λ e. other (number .first-number .ensures ∙ e))
+    replied _ _ (λ e. other (number .number-to .ensures ∙ e))
 
 same-length : tie.Need-same-length
 same-length c = search needs
@@ -24,12 +24,12 @@ returns : tie.Need-returns
 returns c =
     let then = c .before .before .before .before in
     let number = then .before in
-    rw (c .before .before .put-decline .ensures) (declined _ _ (number .first-number .result) (number .first-number .ensures) (then .if1 .taken))
+    rw (c .before .before .put-decline .ensures) (declined _ _ (number .number-to .result) (number .number-to .ensures) (then .if1 .taken))
 
 advanced-requires : tie.Need-advanced-requires
 advanced-requires c κs =
     let number = c .before .before .before in
-    usable _ _ (sym (number .first-number .ensures) ∙ c .before .before .if1 .left)
+    usable _ _ (sym (number .number-to .ensures) ∙ c .before .before .if1 .left)
 
 same-length-3 : tie.Need-same-length-3
 same-length-3 c = search needs
@@ -44,7 +44,7 @@ pub dispatcher-advance-spec : {M : Type 1} → statement M
 dispatcher-advance-spec =
     tie.close
     (tie.spec
-    first-number-requires
+    number-to-requires
     put-decline-requires
     same-length
     same-length-2
