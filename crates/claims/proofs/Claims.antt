@@ -1,5 +1,7 @@
 -- All claims, each from where it is proved.
-use Rattle.model.proofs.Cases.{paper-cases-hold}
+use Rattle.planning.proofs.Meaning.{meaning}
+use Rattle.planning.proofs.Cases.{chapter-six-holds}
+use Rattle.planning.proofs.Leaves.{leaves, not-read}
 use Rattle.offers.proofs.Exact.{exact}
 use Rattle.offers.proofs.Kept.{offer-keeps-sound}
 use Rattle.advances.proofs.Kept.{advance-keeps-sound}
@@ -7,6 +9,7 @@ use Rattle.claims.specs.Claims.{Claims}
 use Rattle.claims.proofs.Demand3.{demand-3}
 use Rattle.claims.proofs.ByHistory.{by-history}
 use Rattle.claims.proofs.Progress.{progress}
+use Rattle.claims.proofs.WorkedCases.{worked-cases-hold}
 
 pub claims : Claims
 claims =
@@ -17,5 +20,9 @@ claims =
       offers-keep-sound = offer-keeps-sound;
       advances-keep-sound = advance-keeps-sound;
       progress = progress;
-      worked-cases = paper-cases-hold;
+      plan-means = meaning;
+      chapter-six = chapter-six-holds;
+      plan-leaves = leaves;
+      plan-reads-to-n = not-read;
+      worked-cases = worked-cases-hold;
     }

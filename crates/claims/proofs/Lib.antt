@@ -4,4 +4,5 @@ pub mod Invariant
 pub mod Demand3
 pub mod ByHistory
 pub mod Progress
+pub mod WorkedCases
 pub mod Claims

@@ -1,20 +1,19 @@
--- What a stranger may rely on, in one record. The contracts of the calls say that each does what `openCall`, `quoteCall`, `offerCall` or `advanceCall` says;
--- these are theorems about the same definitions.
+-- What a stranger may rely on, in one record. The contracts of the calls say that each does what `openCall`, `quoteCall`, `offerCall` or `advanceCall` says,
+-- and those of plan that it does what `planNumber`, `afterPlan` and `planOutput` say; these are theorems about the same definitions.
 use mathlib.Core.Path.{_≡_}
 use mathlib.Core.Bool.{true}
-use Rattle.model.specs.Lists.{all}
+use mathlib.Core.List.{List}
+use Prim.Native.Nat.{ℕ}
 use Rattle.model.specs.Demand3.{Demand3}
-use Rattle.model.specs.Table.{holds}
-use Rattle.model.specs.Cases.{paperCases}
+use Rattle.planning.specs.declared.Task.{Task}
+use Rattle.planning.specs.Meaning.{Meaning, Leaves, NotRead}
+use Rattle.planning.specs.Cases.{isPrinted, chapterSix}
 use Rattle.offers.specs.Exact.{Exact}
 use Rattle.offers.specs.Kept.{OfferKeepsSound}
 use Rattle.advances.specs.Kept.{AdvanceKeepsSound}
 use Rattle.claims.specs.ByHistory.{ByHistory}
 use Rattle.claims.specs.Progress.{Progress}
-
--- "The cases marked P form one proved table": all of document 01's but plan's two.
-abbrev pub WorkedCases : Type 0
-WorkedCases = all holds paperCases ≡ true
+use Rattle.claims.specs.WorkedCases.{WorkedCases}
 
 pub record Claims : Type 0 where
   -- "Due times hold. One theorem over every list of calls from a fresh cabinet"
@@ -27,4 +26,11 @@ pub record Claims : Type 0 where
   pub advances-keep-sound : AdvanceKeepsSound
   -- Every live order comes out if advance is called.
   pub progress : Progress
+  -- Demand 2, "Plan gives the thesis's response figures": what response and verdict of every task of a done plan mean, and the thesis's own example.
+  pub plan-means : Meaning
+  pub chapter-six : isPrinted chapterSix ≡ true
+  -- Demand 1, of plan: what it leaves of the list, and what it does not read.
+  pub plan-leaves : (n : ℕ) (tasks : List Task) → Leaves n tasks
+  pub plan-reads-to-n : (n : ℕ) (tasks : List Task) → NotRead n tasks
+  -- Document 01's cases marked P, plan's two among them.
   pub worked-cases : WorkedCases

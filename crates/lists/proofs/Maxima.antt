@@ -1,9 +1,10 @@
 -- The larger entries of two rows, and sums and maxima of a list of members with one more at its end.
 use mathlib.Core.Path.{_≡_, refl, sym, ap, _∙_}
 use mathlib.Core.List.{List, [], _∷_, _++_}
-use Prim.Native.Nat.{ℕ, zero, suc, _+_, max}
+use Prim.Native.Nat.{ℕ, zero, suc, _+_, _<_, max}
+use native.Mathlib.Numerals.{add-one}
 use native.Mathlib.Omega.{arith}
-use lib.ListN.{length, getD}
+use lib.ListN.{length, getD, set, take}
 use Rattle.model.specs.Lists.{at, total, largest, larger, upward}
 use Rattle.model.specs.DelayBound.{sumOf, maximaOf}
 use Rattle.lists.proofs.Fills.{upward-more, upward-same, upward-list}
@@ -32,6 +33,17 @@ larger-places n xs ys p q =
     upward-same n (λ k. max (getD xs k 0) (getD ys k 0)) (λ k. getD (larger xs ys) k 0) (λ k h. sym (getD-larger xs ys k))
     ∙ upward-list 0 (larger xs ys) n (omega (arith, length-larger xs ys, p, q))
 
+-- The entries so far of one row against those of another, in place.
+pub larger-next : (xs ys : List ℕ) (k : ℕ) → k < length xs → k < length ys → set (larger (take k xs) ys) k (max (getD xs k 0) (getD ys k 0)) ≡ larger (take (k + 1) xs) ys
+unfolding larger
+larger-next xs ys k p q = rw (add-one k) (go xs ys k p q)
+  where
+    go : (xs ys : List ℕ) (k : ℕ) → k < length xs → k < length ys → set (larger (take k xs) ys) k (max (getD xs k 0) (getD ys k 0)) ≡ larger (take (suc k) xs) ys
+    go [] ys k p q = absurd (let z : ⊥ = omega arith in z)
+    go (x ∷ xs) [] k p q = absurd (let z : ⊥ = omega arith in z)
+    go (x ∷ xs) (y ∷ ys) zero p q = refl
+    go (x ∷ xs) (y ∷ ys) (suc k) p q = ap (λ (l : List ℕ). max x y ∷ l) (go xs ys k (omega arith) (omega arith))
+
 larger-comm : (xs ys : List ℕ) → larger xs ys ≡ larger ys xs
 unfolding larger
 larger-comm [] [] = refl
@@ -39,7 +51,7 @@ larger-comm [] (y ∷ ys) = refl
 larger-comm (x ∷ xs) [] = refl
 larger-comm (x ∷ xs) (y ∷ ys) = let e : max x y ≡ max y x = omega arith in rw (e, larger-comm xs ys)
 
-larger-left-comm : (xs ys zs : List ℕ) → larger xs (larger ys zs) ≡ larger ys (larger xs zs)
+pub larger-left-comm : (xs ys zs : List ℕ) → larger xs (larger ys zs) ≡ larger ys (larger xs zs)
 unfolding larger
 larger-left-comm [] ys zs = refl
 larger-left-comm (x ∷ xs) [] zs = refl

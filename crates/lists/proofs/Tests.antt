@@ -103,12 +103,16 @@ module _ {A : Type 0} (test : A → Bool) where
       let high : n ≤ k = ltb-false k n e in
       rw (add-one, take-suc l k d h, drop-append-le n (take k l) (getD l k d ∷ []) (omega arith)) (all-more (drop n (take k l)) (getD l k d)))
 
+  -- The entries so far, and one more.
+  pub all-next : (d : A) (l : List A) (k : ℕ) → k < length l → all test (take (k + 1) l) ≡ (all test (take k l) && test (getD l k d))
+  all-next d l k h = rw (add-one, take-suc l k d h) (all-more (take k l) (getD l k d))
+
   -- Of a list by its entries: one more.
   pub all-upward : (n : ℕ) (f : ℕ → A) → all test (upward 0 (n + 1) f) ≡ (all test (upward 0 n f) && test (f n))
   all-upward n f = rw (upward-more n f) (all-more (upward 0 n f) (f n))
 
   -- One that fails is enough.
-  all-at : (d : A) (l : List A) (i : ℕ) → i < length l → all test l ≡ true → test (getD l i d) ≡ true
+  pub all-at : (d : A) (l : List A) (i : ℕ) → i < length l → all test l ≡ true → test (getD l i d) ≡ true
   unfolding all
   all-at d [] i h e = absurd (let z : ⊥ = omega arith in z)
   all-at d (x ∷ l) zero h e = and-both (test x) (all test l) e .0
@@ -167,7 +171,7 @@ module _ {A B : Type 0} (f : ℕ → A → B) where
   length-numbered k [] = refl
   length-numbered k (x ∷ l) = ap suc (length-numbered (suc k) l)
 
-  getD-from : (k : ℕ) (l : List A) (i : ℕ) (d : A) (e : B) → i < length l → getD (numbered f k l) i e ≡ f (k + i) (getD l i d)
+  pub getD-from : (k : ℕ) (l : List A) (i : ℕ) (d : A) (e : B) → i < length l → getD (numbered f k l) i e ≡ f (k + i) (getD l i d)
   unfolding numbered
   getD-from k [] i d e h = absurd (omega arith)
   getD-from k (x ∷ l) zero d e h = rw (add-zero k)
@@ -223,10 +227,17 @@ unfolding largest
 largest-snoc [] x = omega arith
 largest-snoc (y ∷ a) x = omega (arith, largest-snoc a x)
 
-total-snoc : (a : List ℕ) (x : ℕ) → total (a ++ (x ∷ [])) ≡ total a + x
+pub total-snoc : (a : List ℕ) (x : ℕ) → total (a ++ (x ∷ [])) ≡ total a + x
 unfolding total
 total-snoc [] x = omega arith
 total-snoc (y ∷ a) x = omega (arith, total-snoc a x)
+
+-- The first entries come to no more than all of them.
+pub total-take : (k : ℕ) (l : List ℕ) → total (take k l) ≤ total l
+unfolding total
+total-take zero l = omega arith
+total-take (suc k) [] = omega arith
+total-take (suc k) (x ∷ l) = omega (arith, total-take k l)
 
 -- Of a list by its entries: one more.
 pub total-upward : (n : ℕ) (f : ℕ → ℕ) → total (upward 0 (n + 1) f) ≡ total (upward 0 n f) + f n
@@ -235,6 +246,9 @@ total-upward n f = rw (upward-more n f) (total-snoc (upward 0 n f) (f n))
 module _ (l : List ℕ) (k : ℕ) (h : k < length l) where
   pub largest-more : largest (take (k + 1) l) ≡ max (largest (take k l)) (getD l k 0)
   largest-more = rw (add-one, take-suc l k 0 h) (largest-snoc (take k l) (getD l k 0))
+
+  pub total-next : total (take (k + 1) l) ≡ total (take k l) + getD l k 0
+  total-next = rw (add-one, take-suc l k 0 h) (total-snoc (take k l) (getD l k 0))
 
   pub total-first : (n : ℕ) → total (take n (take (k + 1) l)) ≡ total (take n (take k l)) + cond (ltb k n) (getD l k 0) 0
   total-first n =

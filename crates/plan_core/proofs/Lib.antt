@@ -1,0 +1,4 @@
+-- What the core's outcome is for a list of records.
+pub mod Passing
+pub mod Same
+pub mod Laws

@@ -1,0 +1,2 @@
+-- What the core gives over plain numbers.
+pub mod Outcome

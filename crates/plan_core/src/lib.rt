@@ -1,0 +1,95 @@
+// Plan over plain numbers: its questions, and the figures of every task.
+ghost use mathlib.Core.Path.{_≡_};
+ghost use mathlib.Core.Bool.{true};
+ghost use Prim.Native.Nat.{_-_, _*_, _≤_, min};
+ghost use Rattle.model.specs.Limits.{maxStations, maxCost};
+ghost use Rattle.model.specs.Lists.{total};
+ghost use Rattle.planning.specs.Limits.{maxTasks};
+ghost use Rattle.plan_core.specs.Outcome.{numberOf, figuresOf, RangedTable, outcomeOf};
+use model::limits::MAX_STATIONS;
+use planning::limits::MAX_TASKS;
+use task_table::Figures;
+use task_table::Table;
+
+// The number, how many records get figures, and the figures.
+pub struct Outcome {
+    pub number: u32,
+    pub steps: usize,
+    pub figures: Figures,
+}
+
+// The questions in their order. Ruled out: 18 before 17; 17 of more than 32 tasks left out.
+fn number(n: u32, count: usize, in_range: bool) -> u32
+    ensures { λ r. ⌜ r ≡ numberOf n count «in_range» ⌝ }
+{
+    if (n < 1) | (MAX_STATIONS < n) {
+        return 14;
+    }
+    if (count < 1) | (MAX_TASKS < count) {
+        return 17;
+    }
+    if in_range { 0 } else { 18 }
+}
+
+// The largest costs at the stations before the last, added up; the table has 0 at the others.
+fn stage_sum(maxima: [u32; 8]) -> u32
+    requires { ⌜ total maxima ≤ (maxStations - 1) * maxCost ⌝ }
+    ensures { λ r. ⌜ r ≡ total maxima ⌝ }
+{
+    let mut sum: u32 = 0;
+    let mut k = 0;
+    while k < 8 {
+        sum += maxima[k];
+        k += 1;
+    }
+    sum
+}
+
+// The figures of the first tasks.
+fn figures(t: Table, count: usize) -> Figures
+    requires { ⌜ (count ≤ maxTasks) × RangedTable count t ⌝ }
+    ensures { λ r. ⌜ r ≡ figuresOf count t ⌝ }
+{
+    let maxima = t.maxima;
+    let periods = t.periods;
+    let deadlines = t.deadlines;
+    let costs = t.costs;
+    let stages = stage_sum(maxima);
+    let mut bases = [0u32; 32];
+    let mut responses = [0u64; 32];
+    let mut i = 0;
+    while i < count {
+        let base = costs[i] + stages;
+        let deadline = deadlines[i];
+        bases[i] = base;
+        responses[i] = response::response(&periods, &deadlines, &costs, count, i, base, deadline);
+        i += 1;
+    }
+    Figures {
+        bases: bases,
+        responses: responses,
+    }
+}
+
+// Plan of a table with count records, of which it holds the first 32. A decline has no steps. Ruled out: steps on a decline;
+// figures from before the questions.
+pub fn core(t: Table, count: usize, n: u32) -> Outcome
+    requires { ⌜ (t .«in_range» ≡ true → RangedTable (min count maxTasks) t) ⌝ }
+    ensures { λ r. ⌜ (r ≡ outcomeOf n count t) × (r .steps ≤ count) × (r .steps ≤ maxTasks) ⌝ }
+{
+    let number = number(n, count, t.in_range);
+    if number != 0 {
+        let none = task_table::no_figures();
+        return Outcome {
+            number: number,
+            steps: 0,
+            figures: none,
+        };
+    }
+    let all = figures(t, count);
+    Outcome {
+        number: 0,
+        steps: count,
+        figures: all,
+    }
+}

@@ -1,0 +1,135 @@
+-- What the answer tells a caller: the number of the first question of the form that is answered "no"; of an input whose form passed, N and the tasks, and that
+-- the questions left are plan's.
+use mathlib.Core.Path.{_≡_, refl, sym, ap, _∙_}
+use mathlib.Core.Bool.{Bool, true, false, _&&_}
+use mathlib.Core.List.{List, [], _∷_}
+use Prim.Native.Nat.{ℕ, _-_}
+use native.Mathlib.Omega.{arith}
+use lib.Dec.{eqb, leb}
+use lib.ListN.{length, drop, replicate, length-map}
+use lib.Seq.{take-append-seam}
+use Rattle.model.specs.Limits.{maxStations}
+use Rattle.model.specs.Lists.{within, all}
+use Rattle.model.specs.Questions.{_else_, firstNo}
+use Rattle.planning.specs.declared.Task.{Task}
+use Rattle.planning.specs.Limits.{maxTasks, maxInput}
+use Rattle.planning.specs.Parts.{parts, lastOf}
+use Rattle.planning.specs.Number.{isNumber, valueOf}
+use Rattle.planning.specs.Input.{linesOf, lines, isStations, stationsOf, isTaskLine, isTaskLines, taskAt, tasksOf, formQuestions, inputQuestions, inputNumber}
+use Rattle.planning.specs.Plan.{inRange, planQuestions, planNumber}
+use Rattle.planning.proofs.Ranges.{inside}
+use Rattle.lists.proofs.Tests.{and-both}
+use Rattle.plan_words.specs.Padded.{padded}
+use Rattle.plan_input.specs.declared.Form.the-variants.{TooLong, NotStations, NotTasks}
+use Rattle.plan_input.specs.declared.Parsed.{Parsed}
+use Rattle.plan_input.specs.Parsed.{numberOf, lineFeed, blank, table, asked, parsed}
+use Rattle.plan_input.specs.Accepted.{Accepted}
+
+-- Three answers, and what is said where all are "yes".
+abbrev threeAsked : Bool → Bool → Bool → Parsed → Parsed
+threeAsked a b c rest = asked a TooLong (asked b NotStations (asked c NotTasks rest))
+
+three-number : (a b c : Bool) (n : ℕ) (tasks : List Task) → numberOf (threeAsked a b c (table n tasks) .form) ≡ firstNo ((a else 15) ∷ (b else 16) ∷ (c else 17) ∷ [])
+unfolding firstNo table
+three-number true true true n tasks = refl
+three-number true true false n tasks = refl
+three-number true false c n tasks = refl
+three-number false b c n tasks = refl
+
+three-passed : (a b c : Bool) (n : ℕ) (tasks : List Task) → numberOf (threeAsked a b c (table n tasks) .form) ≡ 0 → (a ≡ true) × (b ≡ true) × (c ≡ true)
+unfolding table
+three-passed true true true n tasks e = (refl, refl, refl)
+three-passed true true false n tasks e = absurd (let z : ⊥ = omega arith in z)
+three-passed true false c n tasks e = absurd (let z : ⊥ = omega arith in z)
+three-passed false b c n tasks e = absurd (let z : ⊥ = omega arith in z)
+
+-- A question more changes nothing where one of the three was answered "no".
+three-first : (a b c d : Bool) (k : ℕ) → (firstNo ((a else 15) ∷ (b else 16) ∷ (c else 17) ∷ []) ≡ 0 → ⊥) → firstNo ((a else 15) ∷ (b else 16) ∷ (c else 17) ∷ (d else k) ∷ []) ≡ firstNo ((a else 15) ∷ (b else 16) ∷ (c else 17) ∷ [])
+unfolding firstNo
+three-first true true true d k some = absurd (some refl)
+three-first true true false d k some = refl
+three-first true false c d k some = refl
+three-first false b c d k some = refl
+
+-- What the questions say of N and of the tasks.
+stations-within : (ls : List (List ℕ)) (input : List ℕ) → lines input ≡ ls → isStations ls ≡ true → within 1 maxStations (stationsOf input) ≡ true
+unfolding isStations stationsOf
+stations-within [] input is e = absurd (let z : _≡_ {A = ℕ} 0 1 = cc in let w : ⊥ = omega arith in w)
+stations-within (line ∷ rest) input is e = rw is (and-both (isNumber line) (within 1 maxStations (valueOf line)) e .1)
+
+-- The lines of tasks are the lines after the first, and the lines of the parts after the first.
+lines-drop : (ps : List (List ℕ)) → linesOf (drop 1 ps) ≡ drop 1 (linesOf ps)
+unfolding linesOf
+lines-drop [] = refl
+lines-drop (p ∷ []) = refl
+lines-drop (p ∷ q ∷ ps) = refl
+
+tasks-within : (input : List ℕ) → isTaskLines (stationsOf input) (drop 1 (parts lineFeed input)) ≡ true → within 1 maxTasks (length (tasksOf input)) ≡ true
+unfolding isTaskLines tasksOf lines
+tasks-within input e =
+    let ps = drop 1 (parts lineFeed input) in
+    let k = and-both (eqb (length (lastOf ps)) 0 && within 1 maxTasks (length (linesOf ps))) (all (isTaskLine (stationsOf input)) (linesOf ps)) e in
+    rw (length-map (drop 1 (linesOf (parts lineFeed input))) taskAt, ← lines-drop (parts lineFeed input))
+    (and-both (eqb (length (lastOf ps)) 0) (within 1 maxTasks (length (linesOf ps))) (k .0) .1)
+
+table-accepted : (input : List ℕ) → within 1 maxStations (stationsOf input) ≡ true → within 1 maxTasks (length (tasksOf input)) ≡ true → Accepted input (table (stationsOf input) (tasksOf input))
+unfolding table padded
+table-accepted input s t =
+    let n = inside 1 maxStations (stationsOf input) s in
+    let k = inside 1 maxTasks (length (tasksOf input)) t in
+    record {
+      stations = refl;
+      stations-low = n .0;
+      stations-high = n .1;
+      count = refl;
+      count-low = k .0;
+      count-high = k .1;
+      tasks = take-append-seam (tasksOf input) (replicate (maxTasks - length (tasksOf input)) blank);
+    }
+
+-- Questions 15 to 17.
+abbrev isShort : List ℕ → Bool
+isShort input = leb (length input) maxInput
+
+abbrev hasStations : List ℕ → Bool
+hasStations input = isStations (lines input)
+
+abbrev hasTasks : List ℕ → Bool
+hasTasks input = isTaskLines (stationsOf input) (drop 1 (parts lineFeed input))
+
+module _ (input : List ℕ) {answer : Parsed} (is : answer ≡ parsed input) where
+  pub answer-number : numberOf (answer .form) ≡ firstNo (formQuestions input)
+  unfolding parsed formQuestions
+  answer-number = rw is (three-number (isShort input) (hasStations input) (hasTasks input) (stationsOf input) (tasksOf input))
+
+  -- A "no" is the program's number.
+  pub declined : (numberOf (answer .form) ≡ 0 → ⊥) → inputNumber input ≡ numberOf (answer .form)
+  unfolding inputNumber inputQuestions formQuestions
+  declined some =
+      three-first (isShort input) (hasStations input) (hasTasks input) (all (inRange (stationsOf input)) (tasksOf input)) 18 (λ z. some (answer-number ∙ z))
+      ∙ sym answer-number
+
+  module _ (passed : numberOf (answer .form) ≡ 0) where
+    answers : (isShort input ≡ true) × (hasStations input ≡ true) × (hasTasks input ≡ true)
+    unfolding parsed
+    answers =
+        three-passed (isShort input) (hasStations input) (hasTasks input) (stationsOf input) (tasksOf input)
+        (ap (λ (p : Parsed). numberOf (p .form)) (sym is) ∙ passed)
+
+    stations-fit : within 1 maxStations (stationsOf input) ≡ true
+    stations-fit = stations-within (lines input) input refl (answers .1)
+
+    count-fits : within 1 maxTasks (length (tasksOf input)) ≡ true
+    count-fits = tasks-within input (answers .2)
+
+    is-table : answer ≡ table (stationsOf input) (tasksOf input)
+    unfolding parsed
+    is-table = is ∙ rw (answers .0, answers .1, answers .2)
+
+    pub accepted : Accepted input answer
+    accepted = rw is-table (table-accepted input stations-fit count-fits)
+
+    -- Without a "no" so far, the program's number is plan's.
+    pub left-to-plan : inputNumber input ≡ planNumber (stationsOf input) (tasksOf input)
+    unfolding inputNumber inputQuestions formQuestions planNumber planQuestions firstNo
+    left-to-plan = rw (answers .0, answers .1, answers .2, stations-fit, count-fits)

@@ -1,0 +1,3 @@
+-- What the plan program's input says.
+pub mod Parsed
+pub mod Accepted

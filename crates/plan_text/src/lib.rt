@@ -1,0 +1,25 @@
+// The plan program's output for any input bytes, into a lent buffer that always has room.
+ghost use Prim.Native.Nat.{_≤_};
+ghost use Rattle.lists.specs.Stored.{Put};
+ghost use Rattle.planning.specs.Output.{planOutput};
+
+// What the program prints, and how many bytes of the buffer it takes: the table, or the number of the first question that is
+// answered by "no". Ruled out: a table after a decline; 18 of a task where a later line has not the form.
+pub fn print_plan(input: &[u8], out: &mut [u8; 1024]) -> usize
+    ensures { λ r. ⌜ Put (now (out .entry)) 0 (planOutput (now (input .entry))) r (now (out .exit)) ⌝ }
+    ensures within { λ r. ⌜ r ≤ 1024 ⌝ }
+{
+    let parsed = plan_input::parse(input);
+    let form = parsed.form;
+    let number = plan_input::number(form);
+    if number != 0 {
+        return plan_output::put_refusal(out, number);
+    }
+    let tasks = parsed.tasks;
+    let planned = planner::plan_array(tasks, parsed.count, parsed.n);
+    if planned.number != 0 {
+        return plan_output::put_refusal(out, planned.number);
+    }
+    let filled = planned.tasks;
+    plan_output::put_table(out, filled, parsed.count)
+}

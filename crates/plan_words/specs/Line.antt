@@ -1,0 +1,25 @@
+-- What a line of numbers says.
+use mathlib.Core.Bool.{true, false, cond}
+use mathlib.Core.List.{List, map}
+use Prim.Native.Nat.{ℕ, _+_}
+use lib.ListN.{replicate}
+use Rattle.model.specs.Limits.{maxStations}
+use Rattle.planning.specs.Number.{valueOf}
+use Rattle.planning.specs.Input.{words, isNumbers}
+use Rattle.plan_words.specs.declared.Line.{Line}
+use Rattle.plan_words.specs.Padded.{padded}
+
+-- "`period deadline cost1 .. costN`": two numbers more than there are stations.
+abbrev pub maxNumbers : ℕ
+maxNumbers = 2 + maxStations
+
+-- A line with the form says its numbers, and a line without it none.
+unfoldable pub formedLine : List ℕ → Line
+formedLine numbers = record { formed = true; numbers = padded maxNumbers 0 numbers }
+
+abbrev pub malformedLine : Line
+malformedLine = record { formed = false; numbers = replicate maxNumbers 0 }
+
+-- What a line says that is to have so many numbers.
+unfoldable pub lineOf : ℕ → List ℕ → Line
+lineOf count line = cond (isNumbers count line) (formedLine (map valueOf (words line))) malformedLine

@@ -1,0 +1,113 @@
+// The words and lines of the plan program's input (document 01, "The standing table"): "unsigned decimals of 1 to 9 digits
+// without leading zeros (a lone 0 has the form), single spaces". Bytes in, numbers out; what the numbers stand for is not
+// known here.
+ghost use mathlib.Core.Path.{_≡_};
+ghost use Prim.Native.Nat.{_≤_};
+ghost use lib.ListN.{length};
+ghost use Rattle.plan_words.specs.Word.{partEnd, valueIn};
+ghost use Rattle.plan_words.specs.Line.{maxNumbers, malformedLine, lineOf};
+
+const MAX_DIGITS: usize = 9;
+
+const ZERO: u8 = b'0';
+
+const NINE: u8 = b'9';
+
+const SPACE: u8 = b' ';
+
+// A line with the most numbers has a period, a deadline and eight costs.
+pub const MAX_NUMBERS: usize = 10;
+
+// What a word says: a number, or that it has not the form of one.
+pub enum Value {
+    Number(u32),
+    Malformed,
+}
+
+// The numbers of a line with zeros after them, or zeros alone where the line has not the form that is asked for. (An enum
+// that holds an array is not covered by the borrow checker.)
+pub struct Line {
+    pub formed: bool,
+    pub numbers: [u32; MAX_NUMBERS],
+}
+
+// Where the part that begins at `start` ends: at the next separator, or else with the text. Ruled out: the place after the
+// separator; the end of the text where a separator stands before it.
+pub fn part_end(text: &[u8], start: usize, separator: u8) -> usize
+    requires { ⌜ start ≤ length (now text) ⌝ }
+    ensures { λ r. ⌜ r ≡ partEnd separator (now (text .entry)) start ⌝ }
+{
+    let mut i = start;
+    while i < text.len() {
+        if text[i] == separator {
+            return i;
+        }
+        i += 1;
+    }
+    i
+}
+
+// The number that a word is. The length is tested first, so that the value fits 32 bits. Ruled out: 2 for `02`; a number for
+// ten digits.
+pub fn value_of(word: &[u8]) -> Value
+    ensures { λ r. ⌜ r ≡ valueIn (now (word .entry)) ⌝ }
+{
+    let n = word.len();
+    if (n < 1) | (MAX_DIGITS < n) {
+        return Value::Malformed;
+    }
+    if (n != 1) & (word[0] == ZERO) {
+        return Value::Malformed;
+    }
+    let mut value: u32 = 0;
+    let mut i = 0;
+    while i < n {
+        let b = word[i];
+        if (b < ZERO) | (NINE < b) {
+            return Value::Malformed;
+        }
+        value = value * 10 + (b - ZERO) as u32;
+        i += 1;
+    }
+    Value::Number(value)
+}
+
+// The answer about a line without the form. Ruled out: a line that is said to have it; numbers of words that were read.
+fn malformed() -> Line
+    ensures { λ r. ⌜ r ≡ malformedLine ⌝ }
+{
+    Line {
+        formed: false,
+        numbers: [0u32; MAX_NUMBERS],
+    }
+}
+
+// The numbers of a line that has `count` of them and nothing else. A line ends without a space, so after its last word `at` is
+// past its end. Ruled out: the first `count` numbers of a longer line; a number for an empty word, as between two spaces.
+pub fn read_line(line: &[u8], count: usize) -> Line
+    requires { ⌜ count ≤ maxNumbers ⌝ }
+    ensures { λ r. ⌜ r ≡ lineOf count (now (line .entry)) ⌝ }
+{
+    let mut numbers = [0u32; MAX_NUMBERS];
+    let mut at = 0;
+    let mut k = 0;
+    while k < count {
+        if line.len() < at {
+            return malformed();
+        }
+        let end = part_end(line, at, SPACE);
+        let Value::Number(value) = value_of(&line[at..end]) else {
+            return malformed();
+        };
+        numbers[k] = value;
+        at = end + 1;
+        k += 1;
+    }
+    if at <= line.len() {
+        return malformed();
+    }
+    Line {
+        formed: true,
+        numbers: numbers,
+    }
+}

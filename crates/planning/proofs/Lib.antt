@@ -1,0 +1,8 @@
+-- What the definitions mean.
+pub mod Releases
+pub mod Sequence
+pub mod Ranges
+pub mod Steps
+pub mod Meaning
+pub mod Cases
+pub mod Leaves

@@ -1,0 +1,11 @@
+-- Document 01, "The standing table": plan's figures, its questions, and the plan program from input bytes to output bytes.
+pub mod Limits
+pub mod Base
+pub mod Response
+pub mod Plan
+pub mod Parts
+pub mod Number
+pub mod Input
+pub mod Output
+pub mod Meaning
+pub mod Cases

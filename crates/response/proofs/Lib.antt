@@ -1,0 +1,2 @@
+-- The laws of the response iteration.
+pub mod StepLaws

@@ -1,0 +1,2 @@
+-- The response iteration over plain numbers.
+pub mod Step
