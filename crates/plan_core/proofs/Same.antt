@@ -15,7 +15,8 @@ use Rattle.planning.specs.Plan.{response}
 use Rattle.planning.proofs.Sequence.{response-same}
 use Rattle.planning.proofs.Steps.{others-map}
 use Rattle.response.specs.Step.{shareAt, interferenceOf, stepOf}
-use Rattle.task_table.specs.Table.{past, tableTo}
+use Rattle.planning.specs.Records.{beyond}
+use Rattle.task_table.specs.Table.{tableTo}
 use Rattle.task_table.proofs.Tables.{periods-are, deadlines-are, costs-are, stages-are}
 use Rattle.plan_core.specs.Outcome.{baseAt, responseAt}
 
@@ -28,7 +29,7 @@ module _ (n : ℕ) (xs : List Task) (few : length xs ≤ maxTasks) where
   count = length xs
 
   abbrev at : ℕ → Task
-  at i = getD xs i past
+  at i = getD xs i beyond
 
   pub period-at : (i : ℕ) → i < count → getD (tableTo n count xs .periods) i 0 ≡ at i .period
   period-at i h = rw (periods-are n xs count few) (front count (maxTasks - count) i (λ j. at j .period) h)
@@ -50,7 +51,7 @@ module _ (n : ℕ) (xs : List Task) (few : length xs ≤ maxTasks) where
   step-same : (i b R : ℕ) → stepOf (tableTo n count xs .periods) (tableTo n count xs .deadlines) (tableTo n count xs .costs) count i b R ≡ next n (others i xs) b R
   unfolding stepOf interferenceOf next
   step-same i b R =
-      let shares : map (share n R) xs ≡ upward 0 count (λ j. share n R (at j)) = rw (take-all count xs (omega arith)) at (map-upward (share n R) past xs count (omega arith)) in
+      let shares : map (share n R) xs ≡ upward 0 count (λ j. share n R (at j)) = rw (take-all count xs (omega arith)) at (map-upward (share n R) beyond xs count (omega arith)) in
       let each : upward 0 count (shareAt (tableTo n count xs .periods) (tableTo n count xs .deadlines) (tableTo n count xs .costs) R) ≡ upward 0 count (λ j. share n R (at j)) =
       upward-same count _ _ (share-same R) in
       rw (each, others-map (share n R) i xs, shares)

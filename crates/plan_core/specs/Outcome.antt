@@ -2,7 +2,7 @@
 use mathlib.Core.Bool.{Bool, true, false}
 use mathlib.Core.List.{List, [], _∷_, _++_}
 use Prim.Native.Nat.{ℕ, _+_, _-_, _*_, _≤_, _<_, min}
-use lib.ListN.{length, getD, replicate}
+use lib.ListN.{length, getD, take, drop, replicate}
 use Rattle.model.specs.Limits.{maxStations, maxCost}
 use Rattle.model.specs.Lists.{within, isZero, total, upward}
 use Rattle.model.specs.Questions.{_else_, firstNo}
@@ -11,8 +11,9 @@ use Rattle.planning.specs.Limits.{maxPeriod, maxTasks}
 use Rattle.planning.specs.Response.{responseFrom}
 use Rattle.task_table.specs.declared.Table.{Table}
 use Rattle.task_table.specs.declared.Figures.{Figures}
+use Rattle.planning.specs.Records.{blank}
 use Rattle.task_table.specs.Table.{tableTo}
-use Rattle.task_table.specs.Figures.{noFigures, filledTo}
+use Rattle.task_table.specs.Figures.{filledTo}
 use Rattle.response.specs.Step.{Ranged, stepOf}
 use Rattle.plan_core.specs.declared.Outcome.{Outcome}
 
@@ -38,24 +39,31 @@ figuresOf count t =
       responses = upward 0 count (responseAt (t .periods) (t .deadlines) (t .costs) stages count) ++ replicate (maxTasks - count) 0;
     }
 
--- A decline has no steps, so that it leaves every record as it was.
-abbrev pub outcomeWhere : Bool → ℕ → ℕ → Table → Outcome
-outcomeWhere true number count t = record { number = number; steps = count; figures = figuresOf count t }
-outcomeWhere false number count t = record { number = number; steps = 0; figures = noFigures }
-
-unfoldable pub outcomeOf : ℕ → ℕ → Table → Outcome
-outcomeOf n count t = let number = numberOf n count (t .«in_range») in outcomeWhere (isZero number) number count t
-
 -- What is known of a table whose figures are all in range.
 pub record RangedTable (count : ℕ) (t : Table) : Type 0 where
   pub tasks : Ranged (t .periods) (t .costs) count
   pub deadline-high : (k : ℕ) → k < count → getD (t .deadlines) k 0 ≤ maxPeriod
   pub maxima-high : total (t .maxima) ≤ (maxStations - 1) * maxCost
 
--- The outcome for a list of records, of which a table holds at most the first 32.
-unfoldable pub planOf : ℕ → List Task → Outcome
-planOf n xs = outcomeOf n (length xs) (tableTo (min n maxStations) (min (length xs) maxTasks) xs)
+-- A decline has no steps, so that it leaves every record as it was.
+abbrev pub outcomeWhere : Bool → ℕ → ℕ → Table → List Task → Outcome
+outcomeWhere true number count t tasks = record { number = number; steps = count; tasks = filledTo (figuresOf count t) count tasks }
+outcomeWhere false number count t tasks = record { number = number; steps = 0; tasks = tasks }
 
--- The list as the steps leave it.
+-- Plan of so many records, of which the array has the first 32.
+unfoldable pub outcomeOf : ℕ → ℕ → List Task → Outcome
+outcomeOf n count tasks =
+    let t = tableTo (min n maxStations) (min count maxTasks) tasks in
+    let number = numberOf n count (t .«in_range») in
+    outcomeWhere (isZero number) number count t tasks
+
+-- The first records of a list in an array of 32.
+unfoldable pub heldOf : List Task → List Task
+heldOf xs = let m = min (length xs) maxTasks in take m xs ++ drop m (replicate maxTasks blank)
+
+-- The outcome for a list of records, and the list as its steps leave it.
+unfoldable pub planOf : ℕ → List Task → Outcome
+planOf n xs = outcomeOf n (length xs) (heldOf xs)
+
 unfoldable pub leftBy : Outcome → List Task → List Task
-leftBy r xs = filledTo (r .figures) (r .steps) xs
+leftBy r xs = take (r .steps) (r .tasks) ++ drop (r .steps) xs

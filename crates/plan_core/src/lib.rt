@@ -1,21 +1,21 @@
 // Plan over plain numbers: its questions, and the figures of every task.
 ghost use mathlib.Core.Path.{_≡_};
-ghost use mathlib.Core.Bool.{true};
 ghost use Prim.Native.Nat.{_-_, _*_, _≤_, min};
 ghost use Rattle.model.specs.Limits.{maxStations, maxCost};
 ghost use Rattle.model.specs.Lists.{total};
 ghost use Rattle.planning.specs.Limits.{maxTasks};
 ghost use Rattle.plan_core.specs.Outcome.{numberOf, figuresOf, RangedTable, outcomeOf};
 use model::limits::MAX_STATIONS;
+use planning::Task;
 use planning::limits::MAX_TASKS;
 use task_table::Figures;
 use task_table::Table;
 
-// The number, how many records get figures, and the figures.
+// The number, how many records are to be written back, and the records.
 pub struct Outcome {
     pub number: u32,
     pub steps: usize,
-    pub figures: Figures,
+    pub tasks: [Task; 32],
 }
 
 // The questions in their order. Ruled out: 18 before 17; 17 of more than 32 tasks left out.
@@ -71,25 +71,32 @@ fn figures(t: Table, count: usize) -> Figures
     }
 }
 
-// Plan of a table with count records, of which it holds the first 32. A decline has no steps. Ruled out: steps on a decline;
-// figures from before the questions.
-pub fn core(t: Table, count: usize, n: u32) -> Outcome
-    requires { ⌜ (t .«in_range» ≡ true → RangedTable (min count maxTasks) t) ⌝ }
-    ensures { λ r. ⌜ (r ≡ outcomeOf n count t) × (r .steps ≤ count) × (r .steps ≤ maxTasks) ⌝ }
+// How many of the records an array has.
+pub fn held(count: usize) -> usize
+    ensures { λ r. ⌜ (r ≡ min count maxTasks) × (r ≤ count) × (r ≤ maxTasks) ⌝ }
 {
+    if count < MAX_TASKS { count } else { MAX_TASKS }
+}
+
+// Plan of so many records, of which the array has the first 32. A decline has no steps. Ruled out: steps on a decline; figures
+// that are not those of the records.
+pub fn core(tasks: [Task; 32], count: usize, n: u32) -> Outcome
+    ensures { λ r. ⌜ (r ≡ outcomeOf n count tasks) × (r .steps ≤ count) × (r .steps ≤ maxTasks) ⌝ }
+{
+    let t = task_table::table_of(tasks, held(count), task_rows::in_record(n));
     let number = number(n, count, t.in_range);
     if number != 0 {
-        let none = task_table::no_figures();
         return Outcome {
             number: number,
             steps: 0,
-            figures: none,
+            tasks: tasks,
         };
     }
-    let all = figures(t, count);
+    let figures = figures(t, count);
+    let filled = task_table::fill_tasks(tasks, figures, count);
     Outcome {
         number: 0,
         steps: count,
-        figures: all,
+        tasks: filled,
     }
 }

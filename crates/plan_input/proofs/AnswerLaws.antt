@@ -13,7 +13,8 @@ use Rattle.model.specs.Lists.{within, all}
 use Rattle.model.specs.Questions.{_else_, firstNo}
 use Rattle.planning.specs.declared.Task.{Task}
 use Rattle.planning.specs.Limits.{maxTasks, maxInput}
-use Rattle.planning.specs.Parts.{parts, lastOf}
+use Rattle.planning.specs.Records.{blank}
+use Rattle.planning.specs.Parts.{lineFeed, parts, lastOf}
 use Rattle.planning.specs.Number.{isNumber, valueOf}
 use Rattle.planning.specs.Input.{linesOf, lines, isStations, stationsOf, isTaskLine, isTaskLines, taskAt, tasksOf, formQuestions, inputQuestions, inputNumber}
 use Rattle.planning.specs.Plan.{inRange, planQuestions, planNumber}
@@ -22,7 +23,7 @@ use Rattle.lists.proofs.Tests.{and-both}
 use Rattle.plan_words.specs.Padded.{padded}
 use Rattle.plan_input.specs.declared.Form.the-variants.{TooLong, NotStations, NotTasks}
 use Rattle.plan_input.specs.declared.Parsed.{Parsed}
-use Rattle.plan_input.specs.Parsed.{numberOf, lineFeed, blank, table, asked, parsed}
+use Rattle.plan_input.specs.Parsed.{numberOf, table, asked, parsed}
 use Rattle.plan_input.specs.Accepted.{Accepted}
 
 -- Three answers, and what is said where all are "yes".

@@ -8,12 +8,12 @@ use lib.ListN.{length, take, drop}
 use borrow.Author.Tests.{le-leb, lt-leb}
 use Rattle.model.specs.Limits.{maxStations}
 use Rattle.planning.specs.Limits.{maxInput}
-use Rattle.planning.specs.Parts.{parts}
+use Rattle.planning.specs.Parts.{lineFeed, parts}
 use Rattle.planning.specs.Number.{isNumber, valueOf}
 use Rattle.planning.specs.Input.{linesOf, lines, isStations, stationsOf, tasksOf}
 use Rattle.lists.proofs.Tests.{and-false, inside}
 use Rattle.plan_input.specs.declared.Form.the-variants.{TooLong, NotStations}
-use Rattle.plan_input.specs.Parsed.{lineFeed, refused, tableOf, parsed}
+use Rattle.plan_input.specs.Parsed.{refused, tableOf, parsed}
 use Rattle.plan_words.proofs.PartLaws.{partsFrom, Ended, from-inside, from-past, parts-some}
 use Rattle.plan_words.proofs.WordLaws.{outside}
 

@@ -4,11 +4,10 @@ use mathlib.Core.List.{List, map}
 use Prim.Native.Nat.{ℕ}
 use lib.ListN.{length, drop, replicate}
 use lib.Dec.{leb}
-use Rattle.model.specs.Limits.{maxStations}
 use Rattle.planning.specs.declared.Task.{Task}
-use Rattle.planning.specs.declared.Verdict.the-variants.{Late}
 use Rattle.planning.specs.Limits.{maxTasks, maxInput}
-use Rattle.planning.specs.Parts.{parts}
+use Rattle.planning.specs.Records.{blank}
+use Rattle.planning.specs.Parts.{lineFeed, parts}
 use Rattle.planning.specs.Input.{linesOf, lines, isStations, stationsOf, isTaskLines, taskAt, tasksOf}
 use Rattle.plan_words.specs.Padded.{padded}
 use Rattle.plan_input.specs.declared.Form.{Form}
@@ -21,13 +20,6 @@ numberOf Passed = 0
 numberOf TooLong = 15
 numberOf NotStations = 16
 numberOf NotTasks = 17
-
-abbrev pub lineFeed : ℕ
-lineFeed = 10
-
--- A record that no line gave.
-abbrev pub blank : Task
-blank = record { period = 0; deadline = 0; costs = replicate maxStations 0; base = 0; response = 0; verdict = Late }
 
 -- An input whose form passed says N and its tasks, and another one neither.
 unfoldable pub table : ℕ → List Task → Parsed

@@ -3,12 +3,11 @@
 // answered "no".
 ghost use mathlib.Core.Path.{_≡_};
 ghost use Prim.Native.Nat.{_≤_};
-ghost use lib.ListN.{length, drop, replicate};
+ghost use lib.ListN.{length, drop};
 ghost use Rattle.model.specs.Limits.{maxStations};
-ghost use Rattle.planning.specs.Limits.{maxTasks};
-ghost use Rattle.planning.specs.Parts.{parts};
+ghost use Rattle.planning.specs.Parts.{lineFeed, parts};
 ghost use Rattle.planning.specs.Input.{taskOf};
-ghost use Rattle.plan_input.specs.Parsed.{numberOf, lineFeed, tableOf, parsed};
+ghost use Rattle.plan_input.specs.Parsed.{numberOf, tableOf, parsed};
 ghost use Rattle.plan_input.specs.Parsed as defined;
 use model::limits::MAX_STATIONS;
 use plan_words::MAX_NUMBERS;
@@ -20,6 +19,7 @@ use planning::Task;
 use planning::Verdict;
 use planning::limits::MAX_INPUT;
 use planning::limits::MAX_TASKS;
+use task_table::no_tasks;
 
 const LINE_FEED: u8 = b'\n';
 
@@ -79,26 +79,11 @@ fn task_of(numbers: [u32; MAX_NUMBERS]) -> Task
     }
 }
 
-// An array with no task in it. Ruled out: a record with a period; a record that is on time.
-fn blank_tasks() -> [Task; MAX_TASKS]
-    ensures { λ r. ⌜ r ≡ replicate maxTasks defined.blank ⌝ }
-{
-    let blank = Task {
-        period: 0,
-        deadline: 0,
-        costs: [0u32; 8],
-        base: 0,
-        response: 0,
-        verdict: Verdict::Late,
-    };
-    [blank; MAX_TASKS]
-}
-
 // The answer where the form did not pass. Ruled out: another form than is given; a count of tasks.
 fn refused(form: Form) -> Parsed
     ensures { λ r. ⌜ r ≡ defined.refused form ⌝ }
 {
-    let tasks = blank_tasks();
+    let tasks = no_tasks();
     Parsed {
         form: form,
         n: 0,
@@ -113,7 +98,7 @@ fn read_tasks(input: &[u8], start: usize, n: u32) -> Parsed
     requires { ⌜ (start ≤ length (now input)) × (n ≤ maxStations) ⌝ }
     ensures { λ r. ⌜ r ≡ tableOf n (parts lineFeed (drop start (now (input .entry)))) ⌝ }
 {
-    let mut tasks = blank_tasks();
+    let mut tasks = no_tasks();
     let mut count = 0;
     let mut at = start;
     while at < input.len() {

@@ -10,7 +10,8 @@ use Rattle.model.specs.Lists.{all}
 use Rattle.planning.specs.Number.{isNumber, valueOf}
 use Rattle.planning.specs.Input.{words, isNumbers}
 use Rattle.lists.proofs.Tests.{and-false}
-use Rattle.plan_words.specs.Line.{maxNumbers, formedLine, malformedLine, lineOf}
+use Rattle.planning.specs.Limits.{maxNumbers}
+use Rattle.plan_words.specs.Line.{formedLine, malformedLine, lineOf}
 use Rattle.plan_words.proofs.PartLaws.{partsFrom, Ended, from-inside, from-past, parts-some}
 use Rattle.plan_words.proofs.ReadingLaws.{Reading, reading-none, reading-part, reading-more, reading-rest, part-fails, all-pass, all-stored}
 

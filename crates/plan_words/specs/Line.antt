@@ -1,17 +1,13 @@
 -- What a line of numbers says.
 use mathlib.Core.Bool.{true, false, cond}
 use mathlib.Core.List.{List, map}
-use Prim.Native.Nat.{ℕ, _+_}
+use Prim.Native.Nat.{ℕ}
 use lib.ListN.{replicate}
-use Rattle.model.specs.Limits.{maxStations}
+use Rattle.planning.specs.Limits.{maxNumbers}
 use Rattle.planning.specs.Number.{valueOf}
 use Rattle.planning.specs.Input.{words, isNumbers}
 use Rattle.plan_words.specs.declared.Line.{Line}
 use Rattle.plan_words.specs.Padded.{padded}
-
--- "`period deadline cost1 .. costN`": two numbers more than there are stations.
-abbrev pub maxNumbers : ℕ
-maxNumbers = 2 + maxStations
 
 -- A line with the form says its numbers, and a line without it none.
 unfoldable pub formedLine : List ℕ → Line

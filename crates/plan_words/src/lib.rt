@@ -4,8 +4,9 @@
 ghost use mathlib.Core.Path.{_≡_};
 ghost use Prim.Native.Nat.{_≤_};
 ghost use lib.ListN.{length};
+ghost use Rattle.planning.specs.Limits.{maxNumbers};
 ghost use Rattle.plan_words.specs.Word.{partEnd, valueIn};
-ghost use Rattle.plan_words.specs.Line.{maxNumbers, malformedLine, lineOf};
+ghost use Rattle.plan_words.specs.Line.{malformedLine, lineOf};
 
 const MAX_DIGITS: usize = 9;
 

@@ -1,5 +1,5 @@
--- What the four walks of this crate share.
-mod Made
+-- What the three walks of this crate share.
+mod Copied
 mod Records
 mod Turns
 mod Locals

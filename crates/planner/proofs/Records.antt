@@ -1,4 +1,4 @@
--- The values that the four walks handle, as the machine has them: task records first, then tables and figures.
+-- The values that the walks handle, as the machine has them.
 use mathlib.Core.Path.{_≡_, ap, subst}
 use Prim.Native.Nat.{ℕ}
 use mathlib.Core.List.{[], _∷_}
@@ -18,12 +18,6 @@ use denote.Struct.Laws as laws
 use Rattle.planning.specs.declared.Task.{Task}
 use Rattle.planning.proofs.Task as T
 use Rattle.planning.proofs.Task.Laws as T′
-use Rattle.task_table.specs.declared.Table.{Table}
-use Rattle.task_table.specs.declared.Figures.{Figures}
-use Rattle.task_table.proofs.Table as B
-use Rattle.task_table.proofs.Table.Laws as B′
-use Rattle.task_table.proofs.Figures as F
-use Rattle.task_table.proofs.Figures.Laws as F′
 
 abbrev pub Record : RattleType
 Record = T.the-row
@@ -32,15 +26,9 @@ Record = T.the-row
 abbrev pub size : ℕ
 size = 64
 
--- The machine values of a record, of a table, and of figures.
+-- The machine value of a record.
 abbrev pub value : Task → Val
 value t = laws.val T.the-type T′.the-laws t
-
-abbrev pub table-value : Table → Val
-table-value t = laws.val B.the-type B′.the-laws t
-
-abbrev pub figures-value : Figures → Val
-figures-value g = laws.val F.the-type F′.the-laws g
 
 -- The types of a `usize` and of a `u32`.
 abbrev pub word : Ty

@@ -1,14 +1,14 @@
--- A loop over the first k records: how far it has come, with what is known there, and the sums of one turn.
+-- A loop over the first k records: how far it has come, and the sums of one turn, in a list of m records that has room in memory.
 use mathlib.Core.WellFounded.{WellFounded, InvImage·wf}
 use Prim.Native.Nat.{ℕ, _+_, _-_, _*_, _≤_, _<_, _^_}
 use native.Mathlib.Omega.{arith}
 use lib.WfN.{Nat·lt-wfRel}
-use Rattle.planning.specs.Limits.{maxTasks}
-use Rattle.planner.proofs.Records.{size}
+use denote.Slice.{Room}
+use Rattle.planner.proofs.Records.{size, Record}
 
-module _ (k : ℕ) (Known : ℕ → Type 0) where
+module _ (k : ℕ) where
   abbrev pub Upto : Type 0
-  Upto = (i : ℕ) × (i ≤ k) × Known i
+  Upto = (i : ℕ) × (i ≤ k)
 
   abbrev pub Nearer : Upto → Upto → Type 0
   Nearer j i = k - j .0 < k - i .0
@@ -16,18 +16,12 @@ module _ (k : ℕ) (Known : ℕ → Type 0) where
   pub nearer-ends : WellFounded Nearer
   nearer-ends = InvImage·wf (λ (i : Upto). k - i .0) (Nat·lt-wfRel .wf)
 
-module _ (k : ℕ) (few : k ≤ maxTasks) (i : ℕ) (less : i < k) where
-  pub small : i < maxTasks
-  small = omega arith
-
-  pub fits : i < 2 ^ 64
-  fits = omega arith
-
+module _ (k m : ℕ) (inside : k ≤ m) (room : Room Record m) (i : ℕ) (less : i < k) where
   pub next-fits : i + 1 < 2 ^ 64
-  next-fits = omega arith
+  next-fits = omega (arith, room .0)
 
   pub scaled : i * size < 2 ^ 64
-  scaled = omega arith
+  scaled = omega (arith, room .1)
 
   pub next : i + 1 ≤ k
   next = omega arith

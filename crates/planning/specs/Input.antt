@@ -10,21 +10,21 @@ use Rattle.model.specs.Lists.{within, all}
 use Rattle.model.specs.Questions.{Question, _else_, firstNo}
 use Rattle.planning.specs.declared.Task.{Task}
 use Rattle.planning.specs.declared.Verdict.the-variants.{Late}
-use Rattle.planning.specs.Limits.{maxTasks, maxInput}
-use Rattle.planning.specs.Parts.{parts, lastOf}
+use Rattle.planning.specs.Limits.{maxTasks, maxInput, maxNumbers}
+use Rattle.planning.specs.Parts.{lineFeed, space, parts, lastOf}
 use Rattle.planning.specs.Number.{isNumber, valueOf}
 use Rattle.planning.specs.Plan.{inRange}
 
--- The lines that a line feed ends, and what stands after the last of them.
+-- The lines: all parts but the last, since a line feed ends each line.
 unfoldable pub linesOf : List (List ℕ) → List (List ℕ)
 linesOf ps = dropLast ps
 
 unfoldable pub lines : List ℕ → List (List ℕ)
-lines input = linesOf (parts 10 input)
+lines input = linesOf (parts lineFeed input)
 
 -- The words of a line, between single spaces.
 abbrev pub words : List ℕ → List (List ℕ)
-words line = parts 32 line
+words line = parts space line
 
 -- "first line a number 1 to 8"
 unfoldable pub isStations : List (List ℕ) → Bool
@@ -52,7 +52,7 @@ taskOf vs =
     record {
       period = getD vs 0 0;
       deadline = getD vs 1 0;
-      costs = drop 2 vs ++ replicate (10 - length vs) 0;
+      costs = drop 2 vs ++ replicate (maxNumbers - length vs) 0;
       base = 0;
       response = 0;
       verdict = Late;
@@ -70,7 +70,7 @@ unfoldable pub formQuestions : List ℕ → List Question
 formQuestions input =
     (leb (length input) maxInput else 15)
     ∷ (isStations (lines input) else 16)
-    ∷ (isTaskLines (stationsOf input) (drop 1 (parts 10 input)) else 17)
+    ∷ (isTaskLines (stationsOf input) (drop 1 (parts lineFeed input)) else 17)
     ∷ []
 
 unfoldable pub inputQuestions : List ℕ → List Question

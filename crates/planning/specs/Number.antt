@@ -5,18 +5,18 @@ use Prim.Native.Nat.{ℕ, _+_, _-_, _*_}
 use lib.ListN.{length, getD}
 use lib.Dec.{eqb}
 use Rattle.model.specs.Lists.{within, all}
+use Rattle.text.specs.Decimal.{digit}
 use Rattle.planning.specs.Limits.{maxDigits}
 
--- The ASCII codes of 0 and 9.
 abbrev pub isDigit : ℕ → Bool
-isDigit b = within 48 57 b
+isDigit b = within (digit 0) (digit 9) b
 
 unfoldable pub isNumber : List ℕ → Bool
-isNumber w = within 1 maxDigits (length w) && (eqb (length w) 1 || not (eqb (getD w 0 0) 48)) && all isDigit w
+isNumber w = within 1 maxDigits (length w) && (eqb (length w) 1 || not (eqb (getD w 0 0) (digit 0))) && all isDigit w
 
 -- One digit more.
 abbrev pub appended : ℕ → ℕ → ℕ
-appended v d = v * 10 + (d - 48)
+appended v d = v * 10 + (d - digit 0)
 
 -- The value of a word of digits.
 unfoldable pub valueOf : List ℕ → ℕ

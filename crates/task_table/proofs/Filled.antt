@@ -8,7 +8,7 @@ use lib.ListN.{length, getD, set, take, drop}
 use Rattle.model.specs.Lists.{numbered}
 use Rattle.planning.specs.declared.Task.{Task}
 use Rattle.task_table.specs.declared.Figures.{Figures}
-use Rattle.task_table.specs.Table.{past}
+use Rattle.planning.specs.Records.{beyond}
 use Rattle.task_table.specs.Figures.{filled, filledTo}
 
 module _ {A : Type 0} (f : ℕ → A → A) (d : A) where
@@ -31,4 +31,4 @@ pub filled-is : (f : Figures) (k : ℕ) (xs : List Task) → k ≤ length xs →
 unfolding filledTo numbered
 filled-is f zero xs h = refl
 filled-is f (suc k) xs h =
-    rw (filled-is f k xs (omega arith), next-read (filled f) past 0 xs k) (rw (zero-add k) at (next-set (filled f) past 0 xs k h))
+    rw (filled-is f k xs (omega arith), next-read (filled f) beyond 0 xs k) (rw (zero-add k) at (next-set (filled f) beyond 0 xs k h))

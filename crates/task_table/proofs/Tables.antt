@@ -16,27 +16,28 @@ use Rattle.planning.specs.Limits.{maxTasks}
 use Rattle.planning.specs.declared.Task.{Task}
 use Rattle.planning.specs.Base.{largestCost, stageCosts, stageMaxima}
 use Rattle.planning.specs.Plan.{inRange}
-use Rattle.task_table.specs.Table.{past, addedTo, tableTo}
+use Rattle.planning.specs.Records.{beyond}
+use Rattle.task_table.specs.Table.{addedTo, tableTo}
 
 module _ (stations : ℕ) (xs : List Task) where
   -- Question 18 of the records so far.
   pub ranged-is : (k : ℕ) → k ≤ length xs → tableTo stations k xs .«in_range» ≡ all (inRange stations) (take k xs)
   unfolding tableTo addedTo all
   ranged-is zero h = refl
-  ranged-is (suc k) h = rw (ranged-is k (omega arith), ← add-one k) (sym (all-next (inRange stations) past xs k (omega arith)))
+  ranged-is (suc k) h = rw (ranged-is k (omega arith), ← add-one k) (sym (all-next (inRange stations) beyond xs k (omega arith)))
 
   -- The numbers at the front of each array.
-  pub periods-are : (k : ℕ) → k ≤ maxTasks → tableTo stations k xs .periods ≡ upward 0 k (λ i. getD xs i past .period) ++ replicate (maxTasks - k) 0
+  pub periods-are : (k : ℕ) → k ≤ maxTasks → tableTo stations k xs .periods ≡ upward 0 k (λ i. getD xs i beyond .period) ++ replicate (maxTasks - k) 0
   unfolding tableTo addedTo
   periods-are zero h = pad-start _ 32 0
   periods-are (suc k) h = rw (← add-one k) (pad-next _ 32 0 _ k _ (omega arith) (periods-are k (omega arith)) refl)
 
-  pub deadlines-are : (k : ℕ) → k ≤ maxTasks → tableTo stations k xs .deadlines ≡ upward 0 k (λ i. getD xs i past .deadline) ++ replicate (maxTasks - k) 0
+  pub deadlines-are : (k : ℕ) → k ≤ maxTasks → tableTo stations k xs .deadlines ≡ upward 0 k (λ i. getD xs i beyond .deadline) ++ replicate (maxTasks - k) 0
   unfolding tableTo addedTo
   deadlines-are zero h = pad-start _ 32 0
   deadlines-are (suc k) h = rw (← add-one k) (pad-next _ 32 0 _ k _ (omega arith) (deadlines-are k (omega arith)) refl)
 
-  pub costs-are : (k : ℕ) → k ≤ maxTasks → tableTo stations k xs .costs ≡ upward 0 k (λ i. largestCost stations (getD xs i past)) ++ replicate (maxTasks - k) 0
+  pub costs-are : (k : ℕ) → k ≤ maxTasks → tableTo stations k xs .costs ≡ upward 0 k (λ i. largestCost stations (getD xs i beyond)) ++ replicate (maxTasks - k) 0
   unfolding tableTo addedTo
   costs-are zero h = pad-start _ 32 0
   costs-are (suc k) h = rw (← add-one k) (pad-next _ 32 0 _ k _ (omega arith) (costs-are k (omega arith)) refl)
@@ -46,9 +47,9 @@ module _ (stations : ℕ) (xs : List Task) where
   unfolding tableTo addedTo stageMaxima maximaOf larger
   maxima-are zero h = refl
   maxima-are (suc k) h =
-      let x = getD xs k past in
+      let x = getD xs k beyond in
       let more : maximaOf (map (stageCosts stations) (take (suc k) xs)) ≡ larger (stageCosts stations x) (maximaOf (map (stageCosts stations) (take k xs))) =
-      rw (take-suc xs k past h, map-append (stageCosts stations) (take k xs) (x ∷ [])) (maximaOf-last (map (stageCosts stations) (take k xs)) (stageCosts stations x)) in
+      rw (take-suc xs k beyond h, map-append (stageCosts stations) (take k xs) (x ∷ [])) (maximaOf-last (map (stageCosts stations) (take k xs)) (stageCosts stations x)) in
       rw (maxima-are k (omega arith), more) (larger-left-comm (stageCosts stations x) (replicate maxStations 0) (maximaOf (map (stageCosts stations) (take k xs))))
 
 zeros-total : (n : ℕ) → total (replicate n 0) ≡ 0

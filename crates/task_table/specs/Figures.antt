@@ -1,15 +1,11 @@
 -- The figures of the tasks as plain numbers, and the records that they are filled into.
 use mathlib.Core.List.{List}
 use Prim.Native.Nat.{ℕ, zero, suc}
-use lib.ListN.{getD, set, replicate}
-use Rattle.planning.specs.Limits.{maxTasks}
+use lib.ListN.{getD, set}
 use Rattle.planning.specs.declared.Task.{Task}
 use Rattle.planning.specs.Plan.{withFigures}
 use Rattle.task_table.specs.declared.Figures.{Figures}
-use Rattle.task_table.specs.Table.{past}
-
-abbrev pub noFigures : Figures
-noFigures = record { bases = replicate maxTasks 0; responses = replicate maxTasks 0 }
+use Rattle.planning.specs.Records.{beyond}
 
 -- The record at place i with its figures.
 unfoldable pub filled : Figures → ℕ → Task → Task
@@ -18,4 +14,4 @@ filled f i x = withFigures x (getD (f .bases) i 0) (getD (f .responses) i 0)
 -- The list with the first k records filled.
 unfoldable pub filledTo : Figures → ℕ → List Task → List Task
 filledTo f zero xs = xs
-filledTo f (suc k) xs = let ys = filledTo f k xs in set ys k (filled f k (getD ys k past))
+filledTo f (suc k) xs = let ys = filledTo f k xs in set ys k (filled f k (getD ys k beyond))

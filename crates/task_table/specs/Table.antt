@@ -1,20 +1,16 @@
 -- The table that a loop over the records makes, one record at a time. proofs/Tables.antt says what its fields are.
 use mathlib.Core.Bool.{true, _&&_}
-use mathlib.Core.List.{List, []}
+use mathlib.Core.List.{List}
 use Prim.Native.Nat.{ℕ, zero, suc}
 use lib.ListN.{getD, set, replicate}
 use Rattle.model.specs.Limits.{maxStations}
 use Rattle.model.specs.Lists.{larger}
 use Rattle.planning.specs.Limits.{maxTasks}
 use Rattle.planning.specs.declared.Task.{Task}
-use Rattle.planning.specs.declared.Verdict.the-variants.{OnTime}
+use Rattle.planning.specs.Records.{beyond}
 use Rattle.planning.specs.Base.{largestCost, stageCosts}
 use Rattle.planning.specs.Plan.{inRange}
 use Rattle.task_table.specs.declared.Table.{Table}
-
--- What is read past the end of a list of records: a record with no entries in its array.
-abbrev pub past : Task
-past = record { period = 0; deadline = 0; costs = []; base = 0; response = 0; verdict = OnTime }
 
 abbrev pub noTable : Table
 noTable =
@@ -40,4 +36,4 @@ addedTo stations t i x =
 -- The table of the first k records.
 unfoldable pub tableTo : ℕ → ℕ → List Task → Table
 tableTo stations zero xs = noTable
-tableTo stations (suc k) xs = addedTo stations (tableTo stations k xs) k (getD xs k past)
+tableTo stations (suc k) xs = addedTo stations (tableTo stations k xs) k (getD xs k beyond)

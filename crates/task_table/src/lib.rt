@@ -1,12 +1,14 @@
 // The task set as plain numbers, and the figures that go back into the records.
 ghost use mathlib.Core.Path.{_≡_};
 ghost use Prim.Native.Nat.{_-_, _≤_, _<_};
+ghost use lib.ListN.{replicate};
 ghost use Rattle.model.specs.Limits.{maxStations};
 ghost use Rattle.planning.specs.Limits.{maxTasks};
+ghost use Rattle.planning.specs.Records as records;
 ghost use Rattle.planning.specs.Response.{verdictOf};
-ghost use Rattle.planning.specs.Plan.{inRange};
-ghost use Rattle.task_table.specs.Table.{noTable, addedTo};
-ghost use Rattle.task_table.specs.Figures.{noFigures, filled};
+ghost use Rattle.planning.specs.Plan.{inRange, withFigures};
+ghost use Rattle.task_table.specs.Table.{tableTo};
+ghost use Rattle.task_table.specs.Figures.{filledTo};
 use planning::Task;
 use planning::Verdict;
 use planning::limits::MAX_PERIOD;
@@ -25,19 +27,6 @@ pub struct Table {
 pub struct Figures {
     pub bases: [u32; 32],
     pub responses: [u64; 32],
-}
-
-// The table of no record.
-pub fn no_table() -> Table
-    ensures { λ r. ⌜ r ≡ noTable ⌝ }
-{
-    Table {
-        periods: [0u32; 32],
-        deadlines: [0u32; 32],
-        costs: [0u32; 32],
-        maxima: [0u32; 8],
-        in_range: true,
-    }
 }
 
 // Question 18 of one task, at the first stations. Ruled out: a deadline of 0 let pass; one above the period let pass.
@@ -59,30 +48,36 @@ fn before_last(stations: usize) -> usize
     if stations == 0 { 0 } else { stations - 1 }
 }
 
-// The table with the record at place i beside those before it. Ruled out: the maximum at the last station taken along; a
-// record out of range that leaves the table in range.
-pub fn add_task(t: Table, i: usize, stations: usize, x: Task) -> Table
-    requires { ⌜ (i < maxTasks) × (stations ≤ maxStations) ⌝ }
-    ensures { λ r. ⌜ r ≡ addedTo stations t i x ⌝ }
+// The table of the first records. Ruled out: the maximum at the last station taken along; a record out of range that leaves
+// the table in range.
+pub fn table_of(tasks: [Task; 32], count: usize, stations: usize) -> Table
+    requires { ⌜ (count ≤ maxTasks) × (stations ≤ maxStations) ⌝ }
+    ensures { λ r. ⌜ r ≡ tableTo stations count tasks ⌝ }
 {
-    let costs = x.costs;
-    let maxima = t.maxima;
-    let mut table = t;
-    table.periods[i] = x.period;
-    table.deadlines[i] = x.deadline;
-    table.costs[i] = task_rows::largest_cost(costs, stations);
-    table.maxima = task_rows::larger_costs(costs, maxima, before_last(stations));
-    table.in_range = t.in_range & in_range(x, stations);
-    table
-}
-
-// Figures that say nothing, for a plan that is declined.
-pub fn no_figures() -> Figures
-    ensures { λ r. ⌜ r ≡ noFigures ⌝ }
-{
-    Figures {
-        bases: [0u32; 32],
-        responses: [0u64; 32],
+    let before = before_last(stations);
+    let mut periods = [0u32; 32];
+    let mut deadlines = [0u32; 32];
+    let mut costs = [0u32; 32];
+    let mut maxima = [0u32; 8];
+    let mut ranged = true;
+    let mut i = 0;
+    while i < count {
+        let x = tasks[i];
+        let row = x.costs;
+        periods[i] = x.period;
+        deadlines[i] = x.deadline;
+        costs[i] = task_rows::largest_cost(row, stations);
+        let larger = task_rows::larger_costs(row, maxima, before);
+        maxima = larger;
+        ranged = ranged & in_range(x, stations);
+        i += 1;
+    }
+    Table {
+        periods: periods,
+        deadlines: deadlines,
+        costs: costs,
+        maxima: maxima,
+        in_range: ranged,
     }
 }
 
@@ -97,15 +92,11 @@ fn verdict(deadline: u32, response: u64) -> Verdict
     Verdict::OnTime
 }
 
-// The record at place i with its figures; what was asked stays. Ruled out: the verdict by the base; the figures of another
-// place.
-pub fn fill_task(f: Figures, i: usize, x: Task) -> Task
-    requires { ⌜ i < maxTasks ⌝ }
-    ensures { λ r. ⌜ r ≡ filled f i x ⌝ }
+// A record with its figures; what was asked stays. Ruled out: the verdict by the base; the response from before.
+fn fill_task(x: Task, base: u32, response: u64) -> Task
+    ensures { λ r. ⌜ r ≡ withFigures x base response ⌝ }
 {
     let costs = x.costs;
-    let base = f.bases[i];
-    let response = f.responses[i];
     let verdict = verdict(x.deadline, response);
     Task {
         period: x.period,
@@ -115,4 +106,37 @@ pub fn fill_task(f: Figures, i: usize, x: Task) -> Task
         response: response,
         verdict: verdict,
     }
+}
+
+// The records with the figures of the first of them. Ruled out: the figures of another place; a record after them changed.
+pub fn fill_tasks(tasks: [Task; 32], figures: Figures, count: usize) -> [Task; 32]
+    requires { ⌜ count ≤ maxTasks ⌝ }
+    ensures { λ r. ⌜ r ≡ filledTo figures count tasks ⌝ }
+{
+    let bases = figures.bases;
+    let responses = figures.responses;
+    let mut filled = tasks;
+    let mut i = 0;
+    while i < count {
+        let x = filled[i];
+        let task = fill_task(x, bases[i], responses[i]);
+        filled[i] = task;
+        i += 1;
+    }
+    filled
+}
+
+// An array with no task in it. Ruled out: a record with a period; a record that is on time.
+pub fn no_tasks() -> [Task; 32]
+    ensures { λ r. ⌜ r ≡ replicate maxTasks records.blank ⌝ }
+{
+    let blank = Task {
+        period: 0,
+        deadline: 0,
+        costs: [0u32; 8],
+        base: 0,
+        response: 0,
+        verdict: Verdict::Late,
+    };
+    [blank; 32]
 }

@@ -17,11 +17,11 @@ Inv-loop input start n tasks₀ count₀ at₀ tasks count at = Rows n input sta
 abbrev μ-loop : tie.MeasureT-loop
 μ-loop input start n tasks₀ count₀ at₀ tasks count at = length input - at
 
-blank-tasks-requires : tie.Need-blank-tasks-requires Inv-loop μ-loop
-blank-tasks-requires c κs = search needs
+no-tasks-requires : tie.Need-no-tasks-requires Inv-loop μ-loop
+no-tasks-requires c κs = search needs
 
 loop-holds : tie.Need-loop-holds Inv-loop μ-loop
-loop-holds c = rw (c .blank-tasks .ensures) (rows-none _ _ _ (search needs))
+loop-holds c = rw (c .no-tasks .ensures) (rows-none _ _ _ (search needs))
 
 part-end-requires : tie.Need-part-end-requires Inv-loop μ-loop
 part-end-requires c κs = search needs
@@ -122,7 +122,7 @@ read-tasks-spec =
     (tie.spec
     Inv-loop
     μ-loop
-    blank-tasks-requires
+    no-tasks-requires
     loop-holds
     part-end-requires
     refused-requires

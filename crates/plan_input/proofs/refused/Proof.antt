@@ -1,13 +1,13 @@
--- The records are blank ones, as `blank_tasks` makes them.
+-- The records are blank ones, as `no_tasks` makes them.
 use borrow.Author.Needs.{needs}
 use Rattle.plan_input.proofs.refused.Statement.{statement}
 use Rattle.plan_input.proofs.refused.Tie as tie
 
-blank-tasks-requires : tie.Need-blank-tasks-requires
-blank-tasks-requires c κs = search needs
+no-tasks-requires : tie.Need-no-tasks-requires
+no-tasks-requires c κs = search needs
 
 returns : tie.Need-returns
-returns c = rw (c .blank-tasks .ensures)
+returns c = rw (c .no-tasks .ensures)
 
 pub refused-spec : {M : Type 1} → statement M
-refused-spec = tie.close (tie.spec blank-tasks-requires returns)
+refused-spec = tie.close (tie.spec no-tasks-requires returns)

@@ -1,5 +1,4 @@
 -- `put_lines` prints a line for each of the first tasks. The loop has printed those of the first i tasks, as rows.
-use mathlib.Core.List.{[]}
 use Prim.Native.Nat.{_≤_, _-_}
 use native.Mathlib.Omega.{arith}
 use borrow.Author.Needs.{needs}
@@ -7,18 +6,13 @@ use Rattle.model.specs.Lists.{concat, upward}
 use Rattle.lists.specs.Stored.{Put}
 use Rattle.lists.proofs.Stores.{put-length}
 use Rattle.text.proofs.Rows.{printed-none, printed-more, printed-all, printed-room}
-use Rattle.planning.specs.declared.Task.{Task}
-use Rattle.planning.specs.declared.Verdict.the-variants.{OnTime}
+use Rattle.planning.specs.Records.{beyond}
 use Rattle.plan_output.proofs.Lengths.{taskRow, task-rows}
 use Rattle.plan_output.proofs.put_lines.Statement.{statement}
 use Rattle.plan_output.proofs.put_lines.Tie as tie
 
--- What is read past the end of the array: a record with no entries in its array.
-abbrev past : Task
-past = record { period = 0; deadline = 0; costs = []; base = 0; response = 0; verdict = OnTime }
-
 abbrev Inv-loop : tie.InvT-loop
-Inv-loop out₀ at count tasks end₀ i₀ out end i = (i ≤ count) × Put out₀ at (concat (upward 0 i (taskRow past tasks))) end out
+Inv-loop out₀ at count tasks end₀ i₀ out end i = (i ≤ count) × Put out₀ at (concat (upward 0 i (taskRow beyond tasks))) end out
 
 abbrev μ-loop : tie.MeasureT-loop
 μ-loop out₀ at count tasks end₀ i₀ out end i = count - i
@@ -38,7 +32,7 @@ add-put-line c = omega arith
 put-line-requires : tie.Need-put-line-requires Inv-loop μ-loop
 put-line-requires c κs =
     let a = c .before .before .before .before .before .args in
-    printed-room (taskRow past (a .t3)) (a .count) (c .before .before .before .loop .inv .1) (omega arith) (rw (task-rows past (a .count) (a .t3) (search needs)) at (c .before .before .before .before .before .pre .1))
+    printed-room (taskRow beyond (a .t3)) (a .count) (c .before .before .before .loop .inv .1) (omega arith) (rw (task-rows beyond (a .count) (a .t3) (search needs)) at (c .before .before .before .before .before .pre .1))
 
 add-i : tie.Need-add-i Inv-loop μ-loop
 add-i c = omega arith
@@ -55,7 +49,7 @@ same-length c = put-length (c .before .loop .inv .1)
 returns : tie.Need-returns Inv-loop μ-loop
 returns c =
     let a = c .before .before .before .args in
-    rw (task-rows past (a .count) (a .t3) (search needs)) (printed-all _ (omega arith) (c .before .loop .inv .1))
+    rw (task-rows beyond (a .count) (a .t3) (search needs)) (printed-all _ (omega arith) (c .before .loop .inv .1))
 
 pub put-lines-spec : {M : Type 1} → statement M
 put-lines-spec =

@@ -4,7 +4,7 @@ use native.Mathlib.Omega.{arith}
 use lib.ListN.{length, take}
 use Rattle.planning.specs.Plan.{planNumber}
 use Rattle.planning.specs.Input.{stationsOf, tasksOf, inputNumber}
-use Rattle.task_table.specs.Table.{past}
+use Rattle.planning.specs.Records.{beyond}
 use Rattle.plan_input.proofs.AnswerLaws.{accepted, declined, left-to-plan}
 use Rattle.plan_output.proofs.Room.{refusal-room}
 use Rattle.plan_text.proofs.Laws.{declined-prints, done-prints, form-small, plan-small, array-planned, planned-room}
@@ -68,7 +68,7 @@ put-table-requires c κs =
     let whole : parse .result .count ≡ length (take (parse .result .count) (parse .result .tasks)) = a .count ∙ ap length (sym (a .tasks)) in
     let zero : planNumber (parse .result .n) (take (parse .result .count) (parse .result .tasks)) ≡ 0 = sym (plan .ensures .0) ∙ c .before .before .if2 .left in
     let first = array-planned _ _ _ _ _ whole zero (plan .ensures .1) in
-    (a .count-high, rw first (omega (arith, planned-room past _ _ zero)))
+    (a .count-high, rw first (omega (arith, planned-room beyond _ _ zero)))
 
 returns-3 : tie.Need-returns-3
 returns-3 c =
@@ -83,7 +83,7 @@ returns-3 c =
     let same : planNumber (stationsOf input) (tasksOf input) ≡ 0 = rw (a .stations, a .tasks) at zero in
     let e : inputNumber input ≡ 0 = left-to-plan input (parse .ensures) (sym (number .ensures) ∙ c .before .before .before .before .before .before .before .if1 .left) ∙ same in
     let p = rw (first, a .stations, a .tasks) at (c .put-table .ensures) in
-    (rw (done-prints input e) p, omega (arith, p .place, planned-room past _ _ same))
+    (rw (done-prints input e) p, omega (arith, p .place, planned-room beyond _ _ same))
 
 pub print-plan-spec : {M : Type 1} → statement M
 print-plan-spec =

@@ -1,0 +1,2 @@
+-- Plan over and over.
+pub mod Rounds
