@@ -17,12 +17,12 @@ use Rattle.planning.specs.declared.Task.{Task}
 use Rattle.planning.specs.Plan.{inRange, planQuestions, planNumber, figured, planned, leftWhere, afterPlan}
 use Rattle.planning.proofs.Ranges.{inside}
 use Rattle.task_table.specs.declared.Table.{Table}
-use Rattle.task_table.specs.declared.Figures.{Figures}
+use Rattle.task_figures.specs.declared.Figures.{Figures}
 use Rattle.planning.specs.Records.{beyond, blank}
 use Rattle.task_table.specs.Table.{tableTo}
-use Rattle.task_table.specs.Figures.{filled, filledTo}
+use Rattle.task_figures.specs.Figures.{filled, filledTo}
 use Rattle.task_table.proofs.Tables.{ranged-is}
-use Rattle.task_table.proofs.Filled.{filled-is}
+use Rattle.task_figures.proofs.Filled.{filled-is}
 use Rattle.plan_core.specs.Outcome.{numberOf, figuresOf, outcomeWhere, outcomeOf, heldOf, planOf, leftBy}
 use Rattle.plan_core.proofs.Passing.{passed}
 use Rattle.plan_core.proofs.Same.{base-same, response-is, front}

@@ -10,10 +10,10 @@ use Rattle.planning.specs.declared.Task.{Task}
 use Rattle.planning.specs.Limits.{maxPeriod, maxTasks}
 use Rattle.planning.specs.Response.{responseFrom}
 use Rattle.task_table.specs.declared.Table.{Table}
-use Rattle.task_table.specs.declared.Figures.{Figures}
+use Rattle.task_figures.specs.declared.Figures.{Figures}
 use Rattle.planning.specs.Records.{blank}
 use Rattle.task_table.specs.Table.{tableTo}
-use Rattle.task_table.specs.Figures.{filledTo}
+use Rattle.task_figures.specs.Figures.{filledTo}
 use Rattle.response.specs.Step.{Ranged, stepOf}
 use Rattle.plan_core.specs.declared.Outcome.{Outcome}
 

@@ -1,4 +1,4 @@
-// Plan over plain numbers: its questions, and the figures of every task.
+// Plan over an array of task records, by value: its questions, and over plain numbers the figures of every task.
 ghost use mathlib.Core.Path.{_≡_};
 ghost use Prim.Native.Nat.{_-_, _*_, _≤_, min};
 ghost use Rattle.model.specs.Limits.{maxStations, maxCost};
@@ -8,7 +8,7 @@ ghost use Rattle.plan_core.specs.Outcome.{numberOf, figuresOf, RangedTab
 use model::limits::MAX_STATIONS;
 use planning::Task;
 use planning::limits::MAX_TASKS;
-use task_table::Figures;
+use task_figures::Figures;
 use task_table::Table;
 
 // The number, how many records are to be written back, and the records.
@@ -31,7 +31,8 @@ fn number(n: u32, count: usize, in_range: bool) -> u32
     if in_range { 0 } else { 18 }
 }
 
-// The largest costs at the stations before the last, added up; the table has 0 at the others.
+// The largest costs at the stations before the last, added up; the table has 0 at the others. Ruled out: the largest alone; the
+// sum without the seventh.
 fn stage_sum(maxima: [u32; 8]) -> u32
     requires { ⌜ total maxima ≤ (maxStations - 1) * maxCost ⌝ }
     ensures { λ r. ⌜ r ≡ total maxima ⌝ }
@@ -45,7 +46,7 @@ fn stage_sum(maxima: [u32; 8]) -> u32
     sum
 }
 
-// The figures of the first tasks.
+// The figures of the first tasks. Ruled out: the base of one task for all; a response against another task's deadline.
 fn figures(t: Table, count: usize) -> Figures
     requires { ⌜ (count ≤ maxTasks) × RangedTable count t ⌝ }
     ensures { λ r. ⌜ r ≡ figuresOf count t ⌝ }
@@ -71,7 +72,7 @@ fn figures(t: Table, count: usize) -> Figures
     }
 }
 
-// How many of the records an array has.
+// How many of so many records an array has. Ruled out: 33 of 33; none of 33.
 pub fn held(count: usize) -> usize
     ensures { λ r. ⌜ (r ≡ min count maxTasks) × (r ≤ count) × (r ≤ maxTasks) ⌝ }
 {
@@ -93,7 +94,7 @@ pub fn core(tasks: [Task; 32], count: usize, n: u32) -> Outcome
         };
     }
     let figures = figures(t, count);
-    let filled = task_table::fill_tasks(tasks, figures, count);
+    let filled = task_figures::fill_tasks(tasks, figures, count);
     Outcome {
         number: 0,
         steps: count,

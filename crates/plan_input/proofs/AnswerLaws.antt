@@ -21,9 +21,10 @@ use Rattle.planning.specs.Plan.{inRange, planQuestions, planNumber}
 use Rattle.planning.proofs.Ranges.{inside}
 use Rattle.lists.proofs.Tests.{and-both}
 use Rattle.plan_words.specs.Padded.{padded}
-use Rattle.plan_input.specs.declared.Form.the-variants.{TooLong, NotStations, NotTasks}
-use Rattle.plan_input.specs.declared.Parsed.{Parsed}
-use Rattle.plan_input.specs.Parsed.{numberOf, table, asked, parsed}
+use Rattle.task_lines.specs.declared.Form.the-variants.{TooLong, NotStations, NotTasks}
+use Rattle.task_lines.specs.declared.Parsed.{Parsed}
+use Rattle.task_lines.specs.Answer.{numberOf, table, asked}
+use Rattle.plan_input.specs.Parsed.{parsed}
 use Rattle.plan_input.specs.Accepted.{Accepted}
 
 -- Three answers, and what is said where all are "yes".

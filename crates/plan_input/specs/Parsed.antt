@@ -1,41 +1,14 @@
--- What an input says, by the questions of its form, and document 01's number for each form.
-use mathlib.Core.Bool.{Bool, true, false}
-use mathlib.Core.List.{List, map}
+-- What an input says, by the questions of its form.
+use mathlib.Core.List.{List}
 use Prim.Native.Nat.{ℕ}
-use lib.ListN.{length, drop, replicate}
+use lib.ListN.{length, drop}
 use lib.Dec.{leb}
-use Rattle.planning.specs.declared.Task.{Task}
-use Rattle.planning.specs.Limits.{maxTasks, maxInput}
-use Rattle.planning.specs.Records.{blank}
+use Rattle.planning.specs.Limits.{maxInput}
 use Rattle.planning.specs.Parts.{lineFeed, parts}
-use Rattle.planning.specs.Input.{linesOf, lines, isStations, stationsOf, isTaskLines, taskAt, tasksOf}
-use Rattle.plan_words.specs.Padded.{padded}
-use Rattle.plan_input.specs.declared.Form.{Form}
-use Rattle.plan_input.specs.declared.Form.the-variants.{Passed, TooLong, NotStations, NotTasks}
-use Rattle.plan_input.specs.declared.Parsed.{Parsed}
-
--- 0 where every question of the form was answered "yes", otherwise the question's number.
-abbrev pub numberOf : Form → ℕ
-numberOf Passed = 0
-numberOf TooLong = 15
-numberOf NotStations = 16
-numberOf NotTasks = 17
-
--- An input whose form passed says N and its tasks, and another one neither.
-unfoldable pub table : ℕ → List Task → Parsed
-table n tasks = record { form = Passed; n = n; count = length tasks; tasks = padded maxTasks blank tasks }
-
-abbrev pub refused : Form → Parsed
-refused form = record { form = form; n = 0; count = 0; tasks = replicate maxTasks blank }
-
--- A question: its answer, what a "no" says, and what a "yes" leaves to say.
-abbrev pub asked : Bool → Form → Parsed → Parsed
-asked true form rest = rest
-asked false form rest = refused form
-
--- Question 17, of the parts that follow the first line.
-unfoldable pub tableOf : ℕ → List (List ℕ) → Parsed
-tableOf n ps = asked (isTaskLines n ps) NotTasks (table n (map taskAt (linesOf ps)))
+use Rattle.planning.specs.Input.{lines, isStations, stationsOf, isTaskLines, tasksOf}
+use Rattle.task_lines.specs.declared.Form.the-variants.{TooLong, NotStations, NotTasks}
+use Rattle.task_lines.specs.declared.Parsed.{Parsed}
+use Rattle.task_lines.specs.Answer.{table, asked}
 
 -- Questions 15 to 17: "first "no" decides".
 unfoldable pub parsed : List ℕ → Parsed

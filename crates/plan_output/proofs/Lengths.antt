@@ -7,13 +7,13 @@ use Rattle.model.specs.Lists.{concat, upward}
 use Rattle.text.specs.Decimal.{decimal}
 use Rattle.text.proofs.Rows.{numbered-rows}
 use Rattle.planning.specs.declared.Task.{Task}
-use Rattle.planning.specs.Output.{verdictWord, field, taskLine, taskLines, table, refusal}
+use Rattle.planning.specs.Output.{verdictEnd, field, taskLine, taskLines, table, refusal}
 
 pub length-field : (v : ℕ) → length (field v) ≡ length (decimal v) + 1
 unfolding field
 length-field v = simp length-append
 
-pub length-line : (k : ℕ) (t : Task) → length (taskLine k t) ≡ length (field k) + length (field (t .base)) + length (field (t .response)) + length (verdictWord (t .verdict))
+pub length-line : (k : ℕ) (t : Task) → length (taskLine k t) ≡ length (field k) + length (field (t .base)) + length (field (t .response)) + length (verdictEnd (t .verdict))
 unfolding taskLine
 length-line k t = simp length-append
 

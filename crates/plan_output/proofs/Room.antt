@@ -14,10 +14,10 @@ use Rattle.planning.specs.declared.Verdict.{Verdict}
 use Rattle.planning.specs.declared.Verdict.the-variants.{OnTime, Late}
 use Rattle.planning.specs.Limits.{maxTasks}
 use Rattle.planning.specs.Meaning.{maxResponse}
-use Rattle.planning.specs.Output.{verdictWord, taskLine, table, refusal}
+use Rattle.planning.specs.Output.{verdictEnd, taskLine, table, refusal}
 use Rattle.plan_output.proofs.Lengths.{taskRow, task-rows, length-field, length-line, length-table, length-refusal}
 
-word-room : (v : Verdict) → length (verdictWord v) ≤ 8
+word-room : (v : Verdict) → length (verdictEnd v) ≤ 8
 word-room OnTime = omega arith
 word-room Late = omega arith
 

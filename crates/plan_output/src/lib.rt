@@ -5,7 +5,7 @@ ghost use Prim.Native.Nat.{_+_, _≤_};
 ghost use lib.ListN.{length, take};
 ghost use Rattle.lists.specs.Stored.{Put};
 ghost use Rattle.planning.specs.Limits.{maxTasks};
-ghost use Rattle.planning.specs.Output.{verdictWord, field, taskLine, taskLines, table, refusal};
+ghost use Rattle.planning.specs.Output.{verdictEnd, field, taskLine, taskLines, table, refusal};
 use planning::Task;
 use planning::Verdict;
 
@@ -20,8 +20,8 @@ fn put_field(out: &mut [u8], at: usize, v: u64) -> usize
 
 // The word of a verdict, and the line feed. Ruled out: one word for both verdicts; a line that no line feed ends.
 fn put_verdict(out: &mut [u8], at: usize, verdict: Verdict) -> usize
-    requires { ⌜ at + length (verdictWord verdict) ≤ length (now out) ⌝ }
-    ensures { λ r. ⌜ Put (now (out .entry)) at (verdictWord verdict) r (now (out .exit)) ⌝ }
+    requires { ⌜ at + length (verdictEnd verdict) ≤ length (now out) ⌝ }
+    ensures { λ r. ⌜ Put (now (out .entry)) at (verdictEnd verdict) r (now (out .exit)) ⌝ }
 {
     match verdict {
         Verdict::OnTime => text::put_bytes(out, at, b"on-time\n"),

@@ -30,7 +30,7 @@ pub fn plan(tasks: &mut [Task], n: u32) -> u32
 {
     let count = tasks.len();
     let held = plan_core::held(count);
-    let mut list = task_table::no_tasks();
+    let mut list = task_figures::no_tasks();
     copy(tasks, &mut list, held);
     let records = list;
     let outcome = plan_core::core(records, count, n);

@@ -25,7 +25,7 @@ isLate Late = true
 unequal : Late ≡ OnTime → ⊥
 unequal e = true≢false (ap isLate e)
 
-pub less : (a b : ℕ) → a ≤ b → (a ≡ b → ⊥) → a < b
+less : (a b : ℕ) → a ≤ b → (a ≡ b → ⊥) → a < b
 less a b h ne = ⊎-elim (λ e. absurd (ne e)) (λ l. l) (eq-or-lt-of-le h)
 
 -- What a verdict says of R.

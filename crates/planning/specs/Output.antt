@@ -16,8 +16,12 @@ heading = ascii "task base response verdict\n"
 
 -- "`on-time` or `late`"
 abbrev pub verdictWord : Verdict → List ℕ
-verdictWord OnTime = ascii "on-time\n"
-verdictWord Late = ascii "late\n"
+verdictWord OnTime = ascii "on-time"
+verdictWord Late = ascii "late"
+
+-- It is the last word of a line.
+abbrev pub verdictEnd : Verdict → List ℕ
+verdictEnd v = verdictWord v ++ ascii "\n"
 
 -- A figure and a space.
 unfoldable pub field : ℕ → List ℕ
@@ -25,7 +29,7 @@ field v = decimal v ++ ascii " "
 
 -- "Fields: task number from 1, base, the R reached, and" the verdict.
 unfoldable pub taskLine : ℕ → Task → List ℕ
-taskLine k t = field k ++ field (t .base) ++ field (t .response) ++ verdictWord (t .verdict)
+taskLine k t = field k ++ field (t .base) ++ field (t .response) ++ verdictEnd (t .verdict)
 
 unfoldable pub taskLines : List Task → List ℕ
 taskLines tasks = concat (numbered taskLine 1 tasks)

@@ -1,6 +1,6 @@
 // The response of a task over plain numbers: periods, deadlines and largest costs of the tasks, one array each.
 ghost use mathlib.Core.Path.{_≡_};
-ghost use Prim.Native.Nat.{_*_, _≤_, _<_};
+ghost use Prim.Native.Nat.{_*_, _≤_};
 ghost use Rattle.model.specs.Limits.{maxCost};
 ghost use Rattle.planning.specs.Limits.{maxPeriod, maxTasks};
 ghost use Rattle.planning.specs.Response.{releases as releasesOf, responseFrom};
@@ -15,7 +15,7 @@ fn releases(r: u32, deadline: u32, period: u32) -> u32
     (r + (period - 1)) / period
 }
 
-// What one task adds: its releases, each at its largest cost.
+// What one task adds: its releases, each at its largest cost. Ruled out: one release whatever r; the releases without the cost.
 fn share(r: u32, deadline: u32, period: u32, cost: u32) -> u64
     requires { ⌜ (r ≤ maxPeriod) × (1 ≤ period) × (period ≤ maxPeriod) × (cost ≤ maxCost) ⌝ }
     ensures { λ x. ⌜ (x ≡ releasesOf r deadline period * cost) × (x ≤ maxShare) ⌝ }

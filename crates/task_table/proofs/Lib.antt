@@ -1,3 +1,2 @@
--- What the table of a list's first records holds, and what a list filled with figures is.
+-- What the table of a list's first records holds.
 pub mod Tables
-pub mod Filled

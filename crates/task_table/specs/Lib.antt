@@ -1,3 +1,2 @@
--- The task set as plain numbers, and its figures.
+-- The task set as plain numbers.
 pub mod Table
-pub mod Figures

@@ -4,7 +4,7 @@ use native.Mathlib.Omega.{arith}
 use borrow.Author.Needs.{needs}
 use lib.ListN.{length}
 use Rattle.planning.specs.declared.Verdict.{Verdict}
-use Rattle.planning.specs.Output.{verdictWord}
+use Rattle.planning.specs.Output.{verdictEnd}
 use Rattle.plan_output.proofs.put_verdict.Statement.{statement}
 use Rattle.plan_output.proofs.put_verdict.Tie as tie
 
@@ -15,7 +15,7 @@ slice-aggregate-put-bytes : tie.Need-slice-aggregate-put-bytes
 slice-aggregate-put-bytes c = omega arith
 
 put-bytes-requires : tie.Need-put-bytes-requires
-put-bytes-requires c κs = omega (arith, ap (λ (v : Verdict). length (verdictWord v)) (c .before .before .enum-told .given .1))
+put-bytes-requires c κs = omega (arith, ap (λ (v : Verdict). length (verdictEnd v)) (c .before .before .enum-told .given .1))
 
 enum-told-2 : tie.Need-enum-told-2
 enum-told-2 c = search needs
@@ -24,7 +24,7 @@ slice-aggregate-put-bytes-2 : tie.Need-slice-aggregate-put-bytes-2
 slice-aggregate-put-bytes-2 c = omega arith
 
 put-bytes-requires-2 : tie.Need-put-bytes-requires-2
-put-bytes-requires-2 c κs = omega (arith, ap (λ (v : Verdict). length (verdictWord v)) (c .before .before .enum-told2 .given .1))
+put-bytes-requires-2 c κs = omega (arith, ap (λ (v : Verdict). length (verdictEnd v)) (c .before .before .enum-told2 .given .1))
 
 same-length : tie.Need-same-length
 same-length c = omega arith

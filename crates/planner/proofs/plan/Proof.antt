@@ -41,10 +41,10 @@ use Rattle.planning.specs.declared.Task.{Task}
 use Rattle.planning.specs.Limits.{maxTasks}
 use Rattle.planning.specs.Plan.{afterPlan}
 use Rattle.planning.specs.Records.{blank}
-use Rattle.task_table.proofs.no_tasks as no-tasks
-use Rattle.task_table.proofs.no_tasks.Symbol as no-tasks-def
-use Rattle.task_table.proofs.no_tasks.Symbol.{name as #no-tasks}
-use Rattle.task_table.proofs.no_tasks.Met as no-tasks-thm
+use Rattle.task_figures.proofs.no_tasks as no-tasks
+use Rattle.task_figures.proofs.no_tasks.Symbol as no-tasks-def
+use Rattle.task_figures.proofs.no_tasks.Symbol.{name as #no-tasks}
+use Rattle.task_figures.proofs.no_tasks.Met as no-tasks-thm
 use Rattle.plan_core.specs.declared.Outcome.{Outcome}
 use Rattle.plan_core.specs.Outcome.{outcomeOf, heldOf, planOf, leftBy}
 use Rattle.plan_core.proofs.Laws.{plan-number, plan-left}
@@ -293,7 +293,7 @@ plan-spec 𝓤 H 𝓜 𝓖 𝓡 =
     (tables 𝓤 H 𝓜 𝓡 code.env .C) (tables 𝓤 H 𝓜 𝓡 code.env .Λ) #plan code.function (code.unfolded 𝓤 H 𝓜 𝓡)
     (meets 𝓤 H (𝓖 .A) (givenOf 𝓤 H 𝓜 𝓖) (𝓜 .mem) (𝓡 .run) (tablesOf 𝓤 H 𝓜 (tables 𝓤 H 𝓜 𝓡 code.env)) record {
       of-held = cited 𝓤 H (contract-of 𝓤 H (𝓖 .A) held.ended (held.clauses 𝓤 H (𝓖 .A) (𝓜 .mem) (𝓡 .run))) 𝓜 𝓡 code.env #held held-def.routine code.calls-plan-core·held (held-thm.met 𝓤 H 𝓜 𝓖 𝓡);
-      of-no-tasks = cited 𝓤 H (contract-of 𝓤 H (𝓖 .A) no-tasks.ended (no-tasks.clauses 𝓤 H (𝓖 .A) (𝓜 .mem) (𝓡 .run))) 𝓜 𝓡 code.env #no-tasks no-tasks-def.routine code.calls-task-table·no-tasks (no-tasks-thm.met 𝓤 H 𝓜 𝓖 𝓡);
+      of-no-tasks = cited 𝓤 H (contract-of 𝓤 H (𝓖 .A) no-tasks.ended (no-tasks.clauses 𝓤 H (𝓖 .A) (𝓜 .mem) (𝓡 .run))) 𝓜 𝓡 code.env #no-tasks no-tasks-def.routine code.calls-task-figures·no-tasks (no-tasks-thm.met 𝓤 H 𝓜 𝓖 𝓡);
       of-copy = cited 𝓤 H (contract-of 𝓤 H (𝓖 .A) copy.ended (copy.clauses 𝓤 H (𝓖 .A) (𝓜 .mem) (𝓡 .run))) 𝓜 𝓡 code.env #copy copy-def.routine code.calls-planner·copy (copy-thm.met 𝓤 H 𝓜 𝓖 𝓡);
       of-core = cited 𝓤 H (contract-of 𝓤 H (𝓖 .A) core.ended (core.clauses 𝓤 H (𝓖 .A) (𝓜 .mem) (𝓡 .run))) 𝓜 𝓡 code.env #core core-def.routine code.calls-plan-core·core (core-thm.met 𝓤 H 𝓜 𝓖 𝓡);
     })

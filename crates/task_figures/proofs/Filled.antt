@@ -7,9 +7,9 @@ use native.Mathlib.Omega.{arith}
 use lib.ListN.{length, getD, set, take, drop}
 use Rattle.model.specs.Lists.{numbered}
 use Rattle.planning.specs.declared.Task.{Task}
-use Rattle.task_table.specs.declared.Figures.{Figures}
+use Rattle.task_figures.specs.declared.Figures.{Figures}
 use Rattle.planning.specs.Records.{beyond}
-use Rattle.task_table.specs.Figures.{filled, filledTo}
+use Rattle.task_figures.specs.Figures.{filled, filledTo}
 
 module _ {A : Type 0} (f : ℕ → A → A) (d : A) where
   -- The entry that comes next is as it was, and is replaced.

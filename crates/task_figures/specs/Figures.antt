@@ -4,7 +4,7 @@ use Prim.Native.Nat.{ℕ, zero, suc}
 use lib.ListN.{getD, set}
 use Rattle.planning.specs.declared.Task.{Task}
 use Rattle.planning.specs.Plan.{withFigures}
-use Rattle.task_table.specs.declared.Figures.{Figures}
+use Rattle.task_figures.specs.declared.Figures.{Figures}
 use Rattle.planning.specs.Records.{beyond}
 
 -- The record at place i with its figures.

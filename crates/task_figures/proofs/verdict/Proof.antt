@@ -2,8 +2,8 @@
 use borrow.Author.Tests.{le-leb, lt-leb}
 use native.Mathlib.Omega.{arith}
 use Rattle.planning.specs.Response.{verdictOf}
-use Rattle.task_table.proofs.verdict.Statement.{statement}
-use Rattle.task_table.proofs.verdict.Tie as tie
+use Rattle.task_figures.proofs.verdict.Statement.{statement}
+use Rattle.task_figures.proofs.verdict.Tie as tie
 
 returns : tie.Need-returns
 unfolding verdictOf

@@ -6,10 +6,10 @@ use borrow.Author.Needs.{needs}
 use borrow.Author.Tests.{not-true, not-false}
 use lib.ListN.{length}
 use Rattle.plan_words.proofs.PartLaws.{ended}
-use Rattle.plan_input.proofs.TaskLaws.{was-task, was-no-task}
-use Rattle.plan_input.proofs.TableLaws.{Rows, rows-none, rows-more, unended-or-full, ended-and-room, other-line, no-line, all-lines}
-use Rattle.plan_input.proofs.read_tasks.Statement.{statement}
-use Rattle.plan_input.proofs.read_tasks.Tie as tie
+use Rattle.task_lines.proofs.TaskLaws.{was-task, was-no-task}
+use Rattle.task_lines.proofs.TableLaws.{Rows, rows-none, rows-more, unended-or-full, ended-and-room, other-line, no-line, all-lines}
+use Rattle.task_lines.proofs.read_tasks.Statement.{statement}
+use Rattle.task_lines.proofs.read_tasks.Tie as tie
 
 abbrev Inv-loop : tie.InvT-loop
 Inv-loop input start n tasks₀ count₀ at₀ tasks count at = Rows n input start tasks count at

@@ -1,8 +1,8 @@
 -- The verdict is by the response.
 use borrow.Author.Needs.{needs}
 use Rattle.planning.specs.Plan.{withFigures}
-use Rattle.task_table.proofs.fill_task.Statement.{statement}
-use Rattle.task_table.proofs.fill_task.Tie as tie
+use Rattle.task_figures.proofs.fill_task.Statement.{statement}
+use Rattle.task_figures.proofs.fill_task.Tie as tie
 
 verdict-requires : tie.Need-verdict-requires
 verdict-requires c κs = search needs

@@ -1,9 +1,9 @@
 -- The costs are what stands after period and deadline.
 use borrow.Author.Needs.{needs}
 use Rattle.planning.specs.Input.{taskOf}
-use Rattle.plan_input.proofs.TaskLaws.{costs-of}
-use Rattle.plan_input.proofs.task_of.Statement.{statement}
-use Rattle.plan_input.proofs.task_of.Tie as tie
+use Rattle.task_lines.proofs.TaskLaws.{costs-of}
+use Rattle.task_lines.proofs.task_of.Statement.{statement}
+use Rattle.task_lines.proofs.task_of.Tie as tie
 
 array-read-t5 : tie.Need-array-read-t5
 array-read-t5 c = search needs

@@ -4,9 +4,9 @@ use Prim.Native.Nat.{_-_, _≤_}
 use native.Mathlib.Numerals.{add-one}
 use native.Mathlib.Omega.{arith}
 use borrow.Author.Needs.{needs}
-use Rattle.task_table.specs.Figures.{filled, filledTo}
-use Rattle.task_table.proofs.fill_tasks.Statement.{statement}
-use Rattle.task_table.proofs.fill_tasks.Tie as tie
+use Rattle.task_figures.specs.Figures.{filled, filledTo}
+use Rattle.task_figures.proofs.fill_tasks.Statement.{statement}
+use Rattle.task_figures.proofs.fill_tasks.Tie as tie
 
 abbrev Inv-loop : tie.InvT-loop
 Inv-loop count bases responses filled₀ i₀ filled i = (i ≤ count) × (filled ≡ filledTo (record { bases = bases; responses = responses }) i filled₀)

@@ -1,0 +1,2 @@
+-- What a list filled with figures is.
+pub mod Filled

@@ -1,0 +1,3 @@
+-- The laws by which the task lines are read.
+pub mod TaskLaws
+pub mod TableLaws

@@ -1,0 +1,38 @@
+-- The answer about an input: document 01's number for each form, and what question 17 says of the task lines.
+use mathlib.Core.Bool.{Bool, true, false}
+use mathlib.Core.List.{List, map}
+use Prim.Native.Nat.{ℕ}
+use lib.ListN.{length, drop, replicate}
+use lib.Dec.{leb}
+use Rattle.planning.specs.declared.Task.{Task}
+use Rattle.planning.specs.Limits.{maxTasks, maxInput}
+use Rattle.planning.specs.Records.{blank}
+use Rattle.planning.specs.Parts.{lineFeed, parts}
+use Rattle.planning.specs.Input.{linesOf, lines, isStations, stationsOf, isTaskLines, taskAt, tasksOf}
+use Rattle.plan_words.specs.Padded.{padded}
+use Rattle.task_lines.specs.declared.Form.{Form}
+use Rattle.task_lines.specs.declared.Form.the-variants.{Passed, TooLong, NotStations, NotTasks}
+use Rattle.task_lines.specs.declared.Parsed.{Parsed}
+
+-- 0 where every question of the form was answered "yes", otherwise the question's number.
+abbrev pub numberOf : Form → ℕ
+numberOf Passed = 0
+numberOf TooLong = 15
+numberOf NotStations = 16
+numberOf NotTasks = 17
+
+-- An input whose form passed says N and its tasks, and another one neither.
+unfoldable pub table : ℕ → List Task → Parsed
+table n tasks = record { form = Passed; n = n; count = length tasks; tasks = padded maxTasks blank tasks }
+
+abbrev pub refused : Form → Parsed
+refused form = record { form = form; n = 0; count = 0; tasks = replicate maxTasks blank }
+
+-- A question: its answer, what a "no" says, and what a "yes" leaves to say.
+abbrev pub asked : Bool → Form → Parsed → Parsed
+asked true form rest = rest
+asked false form rest = refused form
+
+-- Question 17, of the parts that follow the first line.
+unfoldable pub tableOf : ℕ → List (List ℕ) → Parsed
+tableOf n ps = asked (isTaskLines n ps) NotTasks (table n (map taskAt (linesOf ps)))

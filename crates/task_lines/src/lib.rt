@@ -1,0 +1,122 @@
+// The task lines of the plan program's input (document 01, "The standing table"): "one line a task, `period deadline cost1 ..
+// costN`", "each line ended by a line feed"; and the answer about an input.
+ghost use mathlib.Core.Path.{_≡_};
+ghost use Prim.Native.Nat.{_≤_};
+ghost use lib.ListN.{length, drop};
+ghost use Rattle.model.specs.Limits.{maxStations};
+ghost use Rattle.planning.specs.Parts.{lineFeed, parts};
+ghost use Rattle.planning.specs.Input.{taskOf};
+ghost use Rattle.task_lines.specs.Answer.{numberOf, tableOf};
+ghost use Rattle.task_lines.specs.Answer as defined;
+use plan_words::MAX_NUMBERS;
+use plan_words::part_end;
+use plan_words::read_line;
+use planning::Task;
+use planning::Verdict;
+use planning::limits::MAX_TASKS;
+use task_figures::no_tasks;
+
+pub const LINE_FEED: u8 = b'\n';
+
+// Period and deadline, which stand before the costs.
+const BEFORE_COSTS: usize = 2;
+
+// The question of the form that was answered "no", or that none was. `numberOf` has document 01's number for each.
+pub enum Form {
+    Passed,
+    TooLong,
+    NotStations,
+    NotTasks,
+}
+
+// What an input says: its form, and if that passed N and the tasks, which stand in the first `count` places; zeros and blank
+// records otherwise. (An enum that holds an array is not covered by the borrow checker.)
+pub struct Parsed {
+    pub form: Form,
+    pub n: u32,
+    pub count: usize,
+    pub tasks: [Task; MAX_TASKS],
+}
+
+// Document 01's number for a form. Ruled out: 0 for a "no"; one number for two forms.
+pub fn number(form: Form) -> u32
+    ensures { λ r. ⌜ r ≡ numberOf form ⌝ }
+{
+    match form {
+        Form::Passed => 0,
+        Form::TooLong => 15,
+        Form::NotStations => 16,
+        Form::NotTasks => 17,
+    }
+}
+
+// The task of a line's numbers, which are zeros after the last cost. Plan fills in the other figures. Ruled out: period and
+// deadline exchanged; the costs in another order than the stations.
+fn task_of(numbers: [u32; MAX_NUMBERS]) -> Task
+    ensures { λ r. ⌜ r ≡ taskOf numbers ⌝ }
+{
+    Task {
+        period: numbers[0],
+        deadline: numbers[1],
+        costs: [
+            numbers[2],
+            numbers[3],
+            numbers[4],
+            numbers[5],
+            numbers[6],
+            numbers[7],
+            numbers[8],
+            numbers[9],
+        ],
+        base: 0,
+        response: 0,
+        verdict: Verdict::Late,
+    }
+}
+
+// The answer where the form did not pass. Ruled out: another form than is given; a count of tasks.
+pub fn refused(form: Form) -> Parsed
+    ensures { λ r. ⌜ r ≡ defined.refused form ⌝ }
+{
+    let tasks = no_tasks();
+    Parsed {
+        form: form,
+        n: 0,
+        count: 0,
+        tasks: tasks,
+    }
+}
+
+// Question 17, "one to 32 task lines of that form": the lines from `start` on, of n stations. Nothing may stand after the last
+// line feed. Ruled out: a table where the last line is not ended; a table of no line.
+pub fn read_tasks(input: &[u8], start: usize, n: u32) -> Parsed
+    requires { ⌜ (start ≤ length (now input)) × (n ≤ maxStations) ⌝ }
+    ensures { λ r. ⌜ r ≡ tableOf n (parts lineFeed (drop start (now (input .entry)))) ⌝ }
+{
+    let mut tasks = no_tasks();
+    let mut count = 0;
+    let mut at = start;
+    while at < input.len() {
+        let end = part_end(input, at, LINE_FEED);
+        if (end == input.len()) | (count == MAX_TASKS) {
+            return refused(Form::NotTasks);
+        }
+        let line = read_line(&input[at..end], BEFORE_COSTS + n as usize);
+        if !line.formed {
+            return refused(Form::NotTasks);
+        }
+        let numbers = line.numbers;
+        tasks[count] = task_of(numbers);
+        count += 1;
+        at = end + 1;
+    }
+    if count == 0 {
+        return refused(Form::NotTasks);
+    }
+    Parsed {
+        form: Form::Passed,
+        n: n,
+        count: count,
+        tasks: tasks,
+    }
+}
