@@ -23,9 +23,10 @@ use Rattle.task_table.specs.Table.{tableTo}
 use Rattle.task_figures.specs.Figures.{filled, filledTo}
 use Rattle.task_table.proofs.Tables.{ranged-is}
 use Rattle.task_figures.proofs.Filled.{filled-is}
-use Rattle.plan_core.specs.Outcome.{numberOf, figuresOf, outcomeWhere, outcomeOf, heldOf, planOf, leftBy}
+use Rattle.plan_figures.specs.Figures.{figuresOf}
+use Rattle.plan_core.specs.Outcome.{numberOf, outcomeWhere, outcomeOf, heldOf, planOf, leftBy}
 use Rattle.plan_core.proofs.Passing.{passed}
-use Rattle.plan_core.proofs.Same.{base-same, response-is, front}
+use Rattle.plan_figures.proofs.Same.{base-same, response-is, front}
 
 -- The table of the records that the array holds is the table of the list.
 table-held : (stations k : ℕ) (xs ys : List Task) → ((i : ℕ) → i < k → getD xs i beyond ≡ getD ys i beyond) → tableTo stations k xs ≡ tableTo stations k ys

@@ -1,5 +1,3 @@
 -- What the core's outcome is for a list of records.
 pub mod Passing
-pub mod Same
-pub mod Ranging
 pub mod Laws

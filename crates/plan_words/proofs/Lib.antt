@@ -2,4 +2,3 @@
 pub mod PartLaws
 pub mod WordLaws
 pub mod ReadingLaws
-pub mod LineLaws

@@ -1,4 +1,3 @@
--- What a word and a line of numbers say.
+-- What a word says, and a list at the front of an array.
 pub mod Padded
 pub mod Word
-pub mod Line

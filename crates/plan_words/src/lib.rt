@@ -1,12 +1,9 @@
-// The words and lines of the plan program's input (document 01, "The standing table"): "unsigned decimals of 1 to 9 digits
-// without leading zeros (a lone 0 has the form), single spaces". Bytes in, numbers out; what the numbers stand for is not
-// known here.
+// The words of the plan program's input (document 01, "The standing table"): "unsigned decimals of 1 to 9 digits without
+// leading zeros (a lone 0 has the form)". Bytes in, numbers out; what the numbers stand for is not known here.
 ghost use mathlib.Core.Path.{_≡_};
 ghost use Prim.Native.Nat.{_≤_};
 ghost use lib.ListN.{length};
-ghost use Rattle.planning.specs.Limits.{maxNumbers};
 ghost use Rattle.plan_words.specs.Word.{partEnd, valueIn};
-ghost use Rattle.plan_words.specs.Line.{malformedLine, lineOf};
 
 const MAX_DIGITS: usize = 9;
 
@@ -14,22 +11,10 @@ const ZERO: u8 = b'0';
 
 const NINE: u8 = b'9';
 
-const SPACE: u8 = b' ';
-
-// A line with the most numbers has a period, a deadline and eight costs.
-pub const MAX_NUMBERS: usize = 10;
-
 // What a word says: a number, or that it has not the form of one.
 pub enum Value {
     Number(u32),
     Malformed,
-}
-
-// The numbers of a line with zeros after them, or zeros alone where the line has not the form that is asked for. (An enum
-// that holds an array is not covered by the borrow checker.)
-pub struct Line {
-    pub formed: bool,
-    pub numbers: [u32; MAX_NUMBERS],
 }
 
 // Where the part that begins at `start` ends: at the next separator, or else with the text. Ruled out: the place after the
@@ -71,44 +56,4 @@ pub fn value_of(word: &[u8]) -> Value
         i += 1;
     }
     Value::Number(value)
-}
-
-// The answer about a line without the form. Ruled out: a line that is said to have it; numbers of words that were read.
-fn malformed() -> Line
-    ensures { λ r. ⌜ r ≡ malformedLine ⌝ }
-{
-    Line {
-        formed: false,
-        numbers: [0u32; MAX_NUMBERS],
-    }
-}
-
-// The numbers of a line that has `count` of them and nothing else. A line ends without a space, so after its last word `at` is
-// past its end. Ruled out: the first `count` numbers of a longer line; a number for an empty word, as between two spaces.
-pub fn read_line(line: &[u8], count: usize) -> Line
-    requires { ⌜ count ≤ maxNumbers ⌝ }
-    ensures { λ r. ⌜ r ≡ lineOf count (now (line .entry)) ⌝ }
-{
-    let mut numbers = [0u32; MAX_NUMBERS];
-    let mut at = 0;
-    let mut k = 0;
-    while k < count {
-        if line.len() < at {
-            return malformed();
-        }
-        let end = part_end(line, at, SPACE);
-        let Value::Number(value) = value_of(&line[at..end]) else {
-            return malformed();
-        };
-        numbers[k] = value;
-        at = end + 1;
-        k += 1;
-    }
-    if at <= line.len() {
-        return malformed();
-    }
-    Line {
-        formed: true,
-        numbers: numbers,
-    }
 }

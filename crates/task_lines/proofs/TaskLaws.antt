@@ -14,10 +14,10 @@ use Rattle.planning.specs.Number.{isNumber, valueOf}
 use Rattle.planning.specs.Input.{words, isNumbers, isTaskLine, taskOf, taskAt}
 use Rattle.lists.proofs.Fills.{upward-same, upward-list}
 use Rattle.lists.proofs.Tests.{and-both}
-use Rattle.plan_words.specs.declared.Line.{Line}
+use Rattle.plan_lines.specs.declared.Line.{Line}
 use Rattle.plan_words.specs.Padded.{padded}
 use Rattle.planning.specs.Limits.{maxNumbers}
-use Rattle.plan_words.specs.Line.{formedLine, malformedLine, lineOf}
+use Rattle.plan_lines.specs.Line.{formedLine, malformedLine, lineOf}
 
 -- The costs among as many numbers as a line can have.
 pub costs-of : (vs : List ℕ) → length vs ≡ maxNumbers → getD vs 2 0 ∷ getD vs 3 0 ∷ getD vs 4 0 ∷ getD vs 5 0 ∷ getD vs 6 0 ∷ getD vs 7 0 ∷ getD vs 8 0 ∷ getD vs 9 0 ∷ [] ≡ drop 2 vs ++ replicate (maxNumbers - length vs) 0

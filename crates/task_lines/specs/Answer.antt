@@ -2,13 +2,11 @@
 use mathlib.Core.Bool.{Bool, true, false}
 use mathlib.Core.List.{List, map}
 use Prim.Native.Nat.{ℕ}
-use lib.ListN.{length, drop, replicate}
-use lib.Dec.{leb}
+use lib.ListN.{length, replicate}
 use Rattle.planning.specs.declared.Task.{Task}
-use Rattle.planning.specs.Limits.{maxTasks, maxInput}
+use Rattle.planning.specs.Limits.{maxTasks}
 use Rattle.planning.specs.Records.{blank}
-use Rattle.planning.specs.Parts.{lineFeed, parts}
-use Rattle.planning.specs.Input.{linesOf, lines, isStations, stationsOf, isTaskLines, taskAt, tasksOf}
+use Rattle.planning.specs.Input.{linesOf, isTaskLines, taskAt}
 use Rattle.plan_words.specs.Padded.{padded}
 use Rattle.task_lines.specs.declared.Form.{Form}
 use Rattle.task_lines.specs.declared.Form.the-variants.{Passed, TooLong, NotStations, NotTasks}

@@ -11,7 +11,7 @@ use Rattle.planning.specs.Limits.{maxTasks}
 use Rattle.task_table.specs.Table.{tableTo}
 use Rattle.plan_core.specs.Outcome.{numberOf, outcomeOf}
 use Rattle.plan_core.proofs.Passing.{passed}
-use Rattle.plan_core.proofs.Ranging.{table-ranged}
+use Rattle.plan_figures.proofs.Ranging.{table-ranged}
 use Rattle.plan_core.proofs.core.Statement.{statement}
 use Rattle.plan_core.proofs.core.Tie as tie
 

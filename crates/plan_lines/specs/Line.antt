@@ -6,8 +6,8 @@ use lib.ListN.{replicate}
 use Rattle.planning.specs.Limits.{maxNumbers}
 use Rattle.planning.specs.Number.{valueOf}
 use Rattle.planning.specs.Input.{words, isNumbers}
-use Rattle.plan_words.specs.declared.Line.{Line}
+use Rattle.plan_lines.specs.declared.Line.{Line}
 use Rattle.plan_words.specs.Padded.{padded}
 
 -- A line with the form says its numbers, and a line without it none.
 unfoldable pub formedLine : List ℕ → Line

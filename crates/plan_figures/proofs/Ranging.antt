@@ -17,8 +17,8 @@ use Rattle.planning.proofs.Ranges.{InRange, in-range, stages-most}
 use Rattle.planning.specs.Records.{beyond}
 use Rattle.task_table.specs.Table.{tableTo}
 use Rattle.task_table.proofs.Tables.{ranged-is, periods-are, deadlines-are, costs-are, stages-are}
-use Rattle.plan_core.specs.Outcome.{RangedTable}
-use Rattle.plan_core.proofs.Same.{front}
+use Rattle.plan_figures.specs.Figures.{RangedTable}
+use Rattle.plan_figures.proofs.Same.{front}
 
 pub table-ranged : (stations k : ℕ) (xs : List Task) → stations ≤ maxStations → k ≤ maxTasks → k ≤ length xs → tableTo stations k xs .«in_range» ≡ true → RangedTable k (tableTo stations k xs)
 table-ranged stations k xs narrow few inside-list e =

@@ -3,11 +3,11 @@ use mathlib.Core.Path.{_∙_}
 use Prim.Native.Nat.{_-_}
 use native.Mathlib.Omega.{arith}
 use borrow.Author.Needs.{needs}
 use Rattle.plan_words.proofs.PartLaws.{ended}
 use Rattle.plan_words.proofs.WordLaws.{was-number, was-malformed}
-use Rattle.plan_words.proofs.LineLaws.{Numbers, numbers-none, numbers-more, other-word, too-few, too-many, all-read}
-use Rattle.plan_words.proofs.read_line.Statement.{statement}
-use Rattle.plan_words.proofs.read_line.Tie as tie
+use Rattle.plan_lines.proofs.LineLaws.{Numbers, numbers-none, numbers-more, other-word, too-few, too-many, all-read}
+use Rattle.plan_lines.proofs.read_line.Statement.{statement}
+use Rattle.plan_lines.proofs.read_line.Tie as tie
 
 abbrev Inv-loop : tie.InvT-loop
 Inv-loop line count numbers₀ at₀ k₀ numbers at k = Numbers line count numbers at k

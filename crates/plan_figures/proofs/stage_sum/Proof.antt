@@ -7,8 +7,8 @@ use lib.Seq.{take-all}
 use borrow.Author.Needs.{needs}
 use Rattle.model.specs.Lists.{total}
 use Rattle.lists.proofs.Tests.{total-next, total-take}
-use Rattle.plan_core.proofs.stage_sum.Statement.{statement}
-use Rattle.plan_core.proofs.stage_sum.Tie as tie
+use Rattle.plan_figures.proofs.stage_sum.Statement.{statement}
+use Rattle.plan_figures.proofs.stage_sum.Tie as tie
 
 abbrev Inv-loop : tie.InvT-loop
 Inv-loop maxima sum₀ k₀ sum k = (k ≤ 8) × (sum ≡ total (take k maxima))

@@ -7,9 +7,9 @@ use lib.ListN.{replicate}
 use Rattle.model.specs.Lists.{upward}
 use Rattle.lists.proofs.Fills.{pad-start, pad-next}
 use Rattle.planning.specs.Limits.{maxTasks}
-use Rattle.plan_core.specs.Outcome.{baseAt, responseAt, figuresOf}
-use Rattle.plan_core.proofs.figures.Statement.{statement}
-use Rattle.plan_core.proofs.figures.Tie as tie
+use Rattle.plan_figures.specs.Figures.{baseAt, responseAt, figuresOf}
+use Rattle.plan_figures.proofs.figures.Statement.{statement}
+use Rattle.plan_figures.proofs.figures.Tie as tie
 
 abbrev Inv-loop : tie.InvT-loop
 Inv-loop count periods deadlines costs stages bases₀ responses₀ i₀ bases responses i =

@@ -18,7 +18,7 @@ use Rattle.response.specs.Step.{shareAt, interferenceOf, stepOf}
 use Rattle.planning.specs.Records.{beyond}
 use Rattle.task_table.specs.Table.{tableTo}
 use Rattle.task_table.proofs.Tables.{periods-are, deadlines-are, costs-are, stages-are}
-use Rattle.plan_core.specs.Outcome.{baseAt, responseAt}
+use Rattle.plan_figures.specs.Figures.{baseAt, responseAt}
 
 -- The entry at a place of a front part.
 pub front : (n m i : ℕ) (f : ℕ → ℕ) → i < n → getD (upward 0 n f ++ replicate m 0) i 0 ≡ f i

@@ -1,0 +1,3 @@
+-- The figures over plain numbers are those of the records.
+pub mod Same
+pub mod Ranging

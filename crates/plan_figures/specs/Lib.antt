@@ -1,0 +1,2 @@
+-- The figures of every task, over plain numbers.
+pub mod Figures

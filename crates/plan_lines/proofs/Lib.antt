@@ -1,0 +1,2 @@
+-- The law by which a line is read.
+pub mod LineLaws

@@ -1,0 +1,2 @@
+-- What a line of numbers says.
+pub mod Line
