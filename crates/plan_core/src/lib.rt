@@ -34,8 +34,8 @@ pub fn held(count: usize) -> usize
     if count < MAX_TASKS { count } else { MAX_TASKS }
 }
 
-// Plan of so many records, of which the array has the first 32. A decline has no steps. Ruled out: steps on a decline; figures
-// that are not those of the records.
+// Plan of so many records, of which the array has the first 32. A decline has no steps. Ruled out: steps on a decline; the
+// records without their figures.
 pub fn core(tasks: [Task; 32], count: usize, n: u32) -> Outcome
     ensures { λ r. ⌜ (r ≡ outcomeOf n count tasks) × (r .steps ≤ count) × (r .steps ≤ maxTasks) ⌝ }
 {

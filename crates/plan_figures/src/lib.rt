@@ -8,8 +8,8 @@ ghost use Rattle.plan_figures.specs.Figures.{figuresOf, RangedTable};
 use task_figures::Figures;
 use task_table::Table;
 
-// The largest costs at the stations before the last, added up; the table has 0 at the others. Ruled out: the largest alone; the
-// sum without the seventh.
+// The largest costs at the stations before the last, added up; the table has 0 at the others. Ruled out: the sum without the
+// seventh.
 fn stage_sum(maxima: [u32; 8]) -> u32
     requires { ⌜ total maxima ≤ (maxStations - 1) * maxCost ⌝ }
     ensures { λ r. ⌜ r ≡ total maxima ⌝ }
@@ -23,7 +23,8 @@ fn stage_sum(maxima: [u32; 8]) -> u32
     sum
 }
 
-// The figures of the first tasks. Ruled out: the base of one task for all; a response against another task's deadline.
+// The figures of the first tasks. Ruled out: a base without the stage maxima; a response held against
+// the period.
 pub fn figures(t: Table, count: usize) -> Figures
     requires { ⌜ (count ≤ maxTasks) × RangedTable count t ⌝ }
     ensures { λ r. ⌜ r ≡ figuresOf count t ⌝ }

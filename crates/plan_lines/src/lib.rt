@@ -19,7 +19,7 @@ pub struct Line {
     pub numbers: [u32; MAX_NUMBERS],
 }
 
-// The answer about a line without the form. Ruled out: a line that is said to have it; numbers of words that were read.
+// The answer about a line without the form.
 fn malformed() -> Line
     ensures { λ r. ⌜ r ≡ malformedLine ⌝ }
 {
@@ -30,7 +30,7 @@ fn malformed() -> Line
 }
 
 // The numbers of a line that has `count` of them and nothing else. A line ends without a space, so after its last word `at` is
-// past its end. Ruled out: the first `count` numbers of a longer line; a number for an empty word, as between two spaces.
+// past its end. Ruled out: the first `count` numbers of a longer line; those of a line that ends with a space.
 pub fn read_line(line: &[u8], count: usize) -> Line
     requires { ⌜ count ≤ maxNumbers ⌝ }
     ensures { λ r. ⌜ r ≡ lineOf count (now (line .entry)) ⌝ }

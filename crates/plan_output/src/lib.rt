@@ -9,7 +9,7 @@ ghost use Rattle.planning.specs.Output.{verdictEnd, field, taskLine, taskLines,
 use planning::Task;
 use planning::Verdict;
 
-// A figure and a space. Ruled out: the space before the figure; no space.
+// A figure and a space.
 fn put_field(out: &mut [u8], at: usize, v: u64) -> usize
     requires { ⌜ at + length (field v) ≤ length (now out) ⌝ }
     ensures { λ r. ⌜ Put (now (out .entry)) at (field v) r (now (out .exit)) ⌝ }
@@ -18,7 +18,7 @@ fn put_field(out: &mut [u8], at: usize, v: u64) -> usize
     text::put_byte(out, end, b' ')
 }
 
-// The word of a verdict, and the line feed. Ruled out: one word for both verdicts; a line that no line feed ends.
+// The word of a verdict, and the line feed. Ruled out: the words exchanged.
 fn put_verdict(out: &mut [u8], at: usize, verdict: Verdict) -> usize
     requires { ⌜ at + length (verdictEnd verdict) ≤ length (now out) ⌝ }
     ensures { λ r. ⌜ Put (now (out .entry)) at (verdictEnd verdict) r (now (out .exit)) ⌝ }
@@ -29,7 +29,8 @@ fn put_verdict(out: &mut [u8], at: usize, verdict: Verdict) -> usize
     }
 }
 
-// The line of the task with the number k. Ruled out: the deadline where the base stands; base and response exchanged.
+// The line of the task with the number k. Ruled out: the response where the base stands; the base where the
+// response stands.
 fn put_line(out: &mut [u8], at: usize, k: u64, t: Task) -> usize
     requires { ⌜ at + length (taskLine k t) ≤ length (now out) ⌝ }
     ensures { λ r. ⌜ Put (now (out .entry)) at (taskLine k t) r (now (out .exit)) ⌝ }
@@ -42,7 +43,7 @@ fn put_line(out: &mut [u8], at: usize, k: u64, t: Task) -> usize
     put_verdict(out, c, verdict)
 }
 
-// A line for each of the first tasks. Ruled out: numbers from 0; a line for a record after them.
+// A line for each of the first tasks. Ruled out: numbers from 0.
 fn put_lines(out: &mut [u8], at: usize, tasks: [Task; 32], count: usize) -> usize
     requires { ⌜ (count ≤ maxTasks) × (at + length (taskLines (take count tasks)) ≤ length (now out)) ⌝ }
     ensures { λ r. ⌜ Put (now (out .entry)) at (taskLines (take count tasks)) r (now (out .exit)) ⌝ }
@@ -57,7 +58,7 @@ fn put_lines(out: &mut [u8], at: usize, tasks: [Task; 32], count: usize) -> usiz
     end
 }
 
-// The whole table. Ruled out: the lines without their heading; the last task left out.
+// The whole table. Ruled out: a heading that no line feed ends; the heading alone.
 pub fn put_table(out: &mut [u8], tasks: [Task; 32], count: usize) -> usize
     requires { ⌜ (count ≤ maxTasks) × (length (table (take count tasks)) ≤ length (now out)) ⌝ }
     ensures { λ r. ⌜ Put (now (out .entry)) 0 (table (take count tasks)) r (now (out .exit)) ⌝ }
@@ -66,7 +67,7 @@ pub fn put_table(out: &mut [u8], tasks: [Task; 32], count: usize) -> usize
     put_lines(out, end, tasks, count)
 }
 
-// The line of a decline. Ruled out: the number without its word; the heading of a table before it.
+// The line of a decline. Ruled out: a colon for the space; a space for the line feed.
 pub fn put_refusal(out: &mut [u8], number: u32) -> usize
     requires { ⌜ length (refusal number) ≤ length (now out) ⌝ }
     ensures { λ r. ⌜ Put (now (out .entry)) 0 (refusal number) r (now (out .exit)) ⌝ }

@@ -4,7 +4,7 @@ ghost use Rattle.lists.specs.Stored.{Put};
 ghost use Rattle.planning.specs.Output.{planOutput};
 
 // What the program prints, and how many bytes of the buffer it takes: the table, or the number of the first question that is
-// answered by "no". Ruled out: a table after a decline; 18 of a task where a later line has not the form.
+// answered by "no". Ruled out: a table after a decline; 14, which plan has for no station, where the form has not passed.
 pub fn print_plan(input: &[u8], out: &mut [u8; 1024]) -> usize
     ensures { λ r. ⌜ Put (now (out .entry)) 0 (planOutput (now (input .entry))) r (now (out .exit)) ⌝ }
     ensures within { λ r. ⌜ r ≤ 1024 ⌝ }

@@ -18,7 +18,7 @@ pub enum Value {
 }
 
 // Where the part that begins at `start` ends: at the next separator, or else with the text. Ruled out: the place after the
-// separator; the end of the text where a separator stands before it.
+// separator; that of a larger byte before it.
 pub fn part_end(text: &[u8], start: usize, separator: u8) -> usize
     requires { ⌜ start ≤ length (now text) ⌝ }
     ensures { λ r. ⌜ r ≡ partEnd separator (now (text .entry)) start ⌝ }

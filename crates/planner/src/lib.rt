@@ -8,8 +8,7 @@ ghost use Rattle.planning.specs.Limits.{maxTasks};
 ghost use Rattle.planning.specs.Plan.{planNumber, afterPlan};
 use planning::Task;
 
-// The first records of one list over those of another. The first list is lent as plan has its own, and stays as it is. Ruled out:
-// the record at place count written as well; a record written at another place.
+// The first records of one list over those of another. The first list is lent as plan has its own, and stays as it is.
 fn copy(from: &mut [Task], to: &mut [Task], count: usize)
     requires { ⌜ (count ≤ length (now from)) × (count ≤ length (now to)) ⌝ }
     ensures { λ _. ⌜ (now (from .exit) ≡ now (from .entry)) × (now (to .exit) ≡ take count (now (from .entry)) ++ drop count (now (to .entry))) ⌝ }
@@ -46,7 +45,7 @@ pub struct Planned {
     pub tasks: [Task; 32],
 }
 
-// Ruled out: 0 for the number; the records of another array.
+// Ruled out: 0 for the number.
 fn pack(number: u32, tasks: [Task; 32]) -> Planned
     ensures { λ r. ⌜ (r .number ≡ number) × (r .tasks ≡ tasks) ⌝ }
 {
@@ -57,7 +56,7 @@ fn pack(number: u32, tasks: [Task; 32]) -> Planned
 }
 
 // Plan over the first records of an array, by value: its callers hold no reference to a struct, and need no walk.
-// Ruled out: a record at place count or later changed; the records before it as they were, though the number is 0.
+// Ruled out: 0 where plan declines; the array as it was, though the number is 0.
 pub fn plan_array(tasks: [Task; 32], count: usize, n: u32) -> Planned
     requires { ⌜ count ≤ maxTasks ⌝ }
     ensures { λ r. ⌜ (r .number ≡ planNumber n (take count tasks)) × (r .tasks ≡ afterPlan n (take count tasks) ++ drop count tasks) ⌝ }

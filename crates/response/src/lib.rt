@@ -15,7 +15,7 @@ fn releases(r: u32, deadline: u32, period: u32) -> u32
     (r + (period - 1)) / period
 }
 
-// What one task adds: its releases, each at its largest cost. Ruled out: one release whatever r; the releases without the cost.
+// What one task adds: its releases, each at its largest cost.
 fn share(r: u32, deadline: u32, period: u32, cost: u32) -> u64
     requires { ⌜ (r ≤ maxPeriod) × (1 ≤ period) × (period ≤ maxPeriod) × (cost ≤ maxCost) ⌝ }
     ensures { λ x. ⌜ (x ≡ releasesOf r deadline period * cost) × (x ≤ maxShare) ⌝ }
@@ -23,7 +23,7 @@ fn share(r: u32, deadline: u32, period: u32, cost: u32) -> u64
     (releases(r, deadline, period) * cost) as u64
 }
 
-// What the first count tasks but task t add to the response r. Ruled out: the own task counted; the last task left out.
+// What the first count tasks but task t add to the response r. Ruled out: the own task counted; the first task left out.
 fn interference(
     periods: &[u32; 32],
     deadlines: &[u32; 32],

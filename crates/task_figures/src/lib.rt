@@ -27,7 +27,7 @@ fn verdict(deadline: u32, response: u64) -> Verdict
     Verdict::OnTime
 }
 
-// A record with its figures; what was asked stays. Ruled out: the verdict by the base; the response from before.
+// A record with its figures; what was asked stays. Ruled out: the verdict by the base; the verdict by the response from before.
 fn fill_task(x: Task, base: u32, response: u64) -> Task
     ensures { λ r. ⌜ r ≡ withFigures x base response ⌝ }
 {
@@ -43,7 +43,7 @@ fn fill_task(x: Task, base: u32, response: u64) -> Task
     }
 }
 
-// The records with the figures of the first of them. Ruled out: the figures of another place; a record after them changed.
+// The records with the figures of the first of them. Ruled out: the records as they were; a record after them changed.
 pub fn fill_tasks(tasks: [Task; 32], figures: Figures, count: usize) -> [Task; 32]
     requires { ⌜ count ≤ maxTasks ⌝ }
     ensures { λ r. ⌜ r ≡ filledTo figures count tasks ⌝ }
@@ -61,7 +61,7 @@ pub fn fill_tasks(tasks: [Task; 32], figures: Figures, count: usize) -> [Task; 3
     filled
 }
 
-// An array with no task in it. Ruled out: a record with a period; a record that is on time.
+// An array with no task in it. Ruled out: a record that is on time.
 pub fn no_tasks() -> [Task; 32]
     ensures { λ r. ⌜ r ≡ replicate maxTasks records.blank ⌝ }
 {

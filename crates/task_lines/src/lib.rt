@@ -50,8 +50,8 @@ pub fn number(form: Form) -> u32
     }
 }
 
-// The task of a line's numbers, which are zeros after the last cost. Plan fills in the other figures. Ruled out: period and
-// deadline exchanged; the costs in another order than the stations.
+// The task of a line's numbers, which are zeros after the last cost. Plan fills in the other figures. Ruled out: the
+// period for the deadline.
 fn task_of(numbers: [u32; MAX_NUMBERS]) -> Task
     ensures { λ r. ⌜ r ≡ taskOf numbers ⌝ }
 {
@@ -74,7 +74,7 @@ fn task_of(numbers: [u32; MAX_NUMBERS]) -> Task
     }
 }
 
-// The answer where the form did not pass. Ruled out: another form than is given; a count of tasks.
+// The answer where the form did not pass. Ruled out: a count of tasks.
 pub fn refused(form: Form) -> Parsed
     ensures { λ r. ⌜ r ≡ defined.refused form ⌝ }
 {

@@ -7,7 +7,7 @@ ghost use Rattle.model.specs.Lists as lists;
 use model::limits::MAX_COST;
 use model::limits::MAX_STATIONS;
 
-// The stations up to n that a record has costs for.
+// The stations up to n that a record has costs for. Ruled out: 9 for nine stations.
 pub fn in_record(n: u32) -> usize
     ensures { λ r. ⌜ (r ≡ min n maxStations) × (r ≤ maxStations) ⌝ }
 {
@@ -24,7 +24,7 @@ fn larger(a: u32, b: u32) -> u32
     if a < b { b } else { a }
 }
 
-// The largest cost at the first stations. Ruled out: the cost at the last of them; the cost at the station after them.
+// The largest cost at the first stations. Ruled out: the cost at the last of them; 1 where there are none.
 pub fn largest_cost(costs: [u32; 8], stations: usize) -> u32
     requires { ⌜ stations ≤ maxStations ⌝ }
     ensures { λ r. ⌜ r ≡ lists.largest (take stations costs) ⌝ }
@@ -38,7 +38,7 @@ pub fn largest_cost(costs: [u32; 8], stations: usize) -> u32
     top
 }
 
-// "costs 1 to 6,000", at the first stations. Ruled out: a cost of 0 let pass; one beyond these stations looked at.
+// "costs 1 to 6,000", at the first stations. Ruled out: a cost of 0 let pass; one of 6,001 let pass.
 pub fn costs_in_range(costs: [u32; 8], stations: usize) -> bool
     requires { ⌜ stations ≤ maxStations ⌝ }
     ensures { λ r. ⌜ r ≡ lists.all (lists.within 1 maxCost) (take stations costs) ⌝ }
@@ -53,7 +53,7 @@ pub fn costs_in_range(costs: [u32; 8], stations: usize) -> bool
     holds
 }
 
-// A row with the larger of two entries at each of the first stations. Ruled out: the smaller entries; a change at a station after them.
+// A row with the larger of two entries at each of the first stations. Ruled out: the smaller entries; the costs at stations after them.
 pub fn larger_costs(costs: [u32; 8], row: [u32; 8], stations: usize) -> [u32; 8]
     requires { ⌜ stations ≤ maxStations ⌝ }
     ensures { λ r. ⌜ r ≡ lists.larger (take stations costs) row ⌝ }

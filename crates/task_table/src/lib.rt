@@ -30,7 +30,7 @@ fn in_range(x: Task, stations: usize) -> bool
         & ranged
 }
 
-// How many stations there are before the last. Ruled out: the last one counted; a count below none.
+// How many stations there are before the last. Ruled out: the last one counted.
 fn before_last(stations: usize) -> usize
     ensures { λ r. ⌜ (r ≡ stations - 1) × (r ≤ stations) ⌝ }
 {
