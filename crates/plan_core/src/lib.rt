@@ -27,7 +27,7 @@ fn number(n: u32, count: usize, in_range: bool) -> u32
     if in_range { 0 } else { 18 }
 }
 
-// How many of so many records an array has. Ruled out: 33 of 33; none of 33.
+// How many of so many records an array has. Ruled out: 33 of 33.
 pub fn held(count: usize) -> usize
     ensures { λ r. ⌜ (r ≡ min count maxTasks) × (r ≤ count) × (r ≤ maxTasks) ⌝ }
 {

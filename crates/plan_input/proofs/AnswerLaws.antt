@@ -21,9 +21,9 @@ use Rattle.planning.specs.Plan.{inRange, planQuestions, planNumber}
 use Rattle.planning.proofs.Ranges.{inside}
 use Rattle.lists.proofs.Tests.{and-both}
 use Rattle.plan_words.specs.Padded.{padded}
-use Rattle.task_lines.specs.declared.Form.the-variants.{TooLong, NotStations, NotTasks}
-use Rattle.task_lines.specs.declared.Parsed.{Parsed}
-use Rattle.task_lines.specs.Answer.{numberOf, table, asked}
+use Rattle.plan_answer.specs.declared.Form.the-variants.{TooLong, NotStations, NotTasks}
+use Rattle.plan_answer.specs.declared.Parsed.{Parsed}
+use Rattle.plan_answer.specs.Answer.{numberOf, table, asked}
 use Rattle.plan_input.specs.Parsed.{parsed}
 use Rattle.plan_input.specs.Accepted.{Accepted}
 

@@ -12,8 +12,9 @@ use Rattle.planning.specs.Parts.{lineFeed, parts}
 use Rattle.planning.specs.Number.{isNumber, valueOf}
 use Rattle.planning.specs.Input.{linesOf, lines, isStations, stationsOf, tasksOf}
 use Rattle.lists.proofs.Tests.{and-false, inside}
-use Rattle.task_lines.specs.declared.Form.the-variants.{TooLong, NotStations}
-use Rattle.task_lines.specs.Answer.{refused, tableOf}
+use Rattle.plan_answer.specs.declared.Form.the-variants.{TooLong, NotStations}
+use Rattle.plan_answer.specs.Answer.{refused}
+use Rattle.task_lines.specs.Lines.{tableOf}
 use Rattle.plan_input.specs.Parsed.{parsed}
 use Rattle.plan_words.proofs.PartLaws.{partsFrom, Ended, from-inside, from-past, parts-some}
 use Rattle.plan_words.proofs.WordLaws.{outside}

@@ -6,7 +6,7 @@ use lib.ListN.{length, take}
 use Rattle.model.specs.Limits.{maxStations}
 use Rattle.planning.specs.Limits.{maxTasks}
 use Rattle.planning.specs.Input.{stationsOf, tasksOf}
-use Rattle.task_lines.specs.declared.Parsed.{Parsed}
+use Rattle.plan_answer.specs.declared.Parsed.{Parsed}
 
 pub record Accepted (input : List ℕ) (answer : Parsed) : Type 0 where
   pub stations : answer .n ≡ stationsOf input

@@ -6,9 +6,9 @@ use lib.Dec.{leb}
 use Rattle.planning.specs.Limits.{maxInput}
 use Rattle.planning.specs.Parts.{lineFeed, parts}
 use Rattle.planning.specs.Input.{lines, isStations, stationsOf, isTaskLines, tasksOf}
-use Rattle.task_lines.specs.declared.Form.the-variants.{TooLong, NotStations, NotTasks}
-use Rattle.task_lines.specs.declared.Parsed.{Parsed}
-use Rattle.task_lines.specs.Answer.{table, asked}
+use Rattle.plan_answer.specs.declared.Form.the-variants.{TooLong, NotStations, NotTasks}
+use Rattle.plan_answer.specs.declared.Parsed.{Parsed}
+use Rattle.plan_answer.specs.Answer.{table, asked}
 
 -- Questions 15 to 17: "first "no" decides".
 unfoldable pub parsed : List ℕ → Parsed

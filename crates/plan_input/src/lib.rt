@@ -3,15 +3,15 @@
 ghost use mathlib.Core.Path.{_≡_};
 ghost use Rattle.plan_input.specs.Parsed.{parsed};
 use model::limits::MAX_STATIONS;
+use plan_answer::Form;
+use plan_answer::Parsed;
+use plan_answer::refused;
 use plan_words::Value;
 use plan_words::part_end;
 use plan_words::value_of;
 use planning::limits::MAX_INPUT;
-use task_lines::Form;
 use task_lines::LINE_FEED;
-use task_lines::Parsed;
 use task_lines::read_tasks;
-use task_lines::refused;
 
 // Questions 15 to 17, of any bytes: "first "no" decides". Ruled out: 17 where the first line is no number of stations; a table
 // for an input of 16,385 bytes.

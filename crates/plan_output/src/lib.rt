@@ -29,8 +29,7 @@ fn put_verdict(out: &mut [u8], at: usize, verdict: Verdict) -> usize
     }
 }
 
-// The line of the task with the number k. Ruled out: the response where the base stands; the base where the
-// response stands.
+// The line of the task with the number k. Ruled out: the response where the base stands.
 fn put_line(out: &mut [u8], at: usize, k: u64, t: Task) -> usize
     requires { ⌜ at + length (taskLine k t) ≤ length (now out) ⌝ }
     ensures { λ r. ⌜ Put (now (out .entry)) at (taskLine k t) r (now (out .exit)) ⌝ }

@@ -6,8 +6,8 @@ use lib.ListN.{take, drop}
 use Rattle.model.specs.Lists.{isZero}
 use Rattle.planning.specs.declared.Task.{Task}
 use Rattle.planning.specs.Plan.{planNumber, afterPlan}
-use Rattle.task_lines.specs.declared.Parsed.{Parsed}
-use Rattle.task_lines.specs.Answer.{numberOf}
+use Rattle.plan_answer.specs.declared.Parsed.{Parsed}
+use Rattle.plan_answer.specs.Answer.{numberOf}
 
 -- The array after k rounds.
 unfoldable pub tasksAfter : ℕ → Parsed → List Task

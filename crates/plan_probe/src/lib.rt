@@ -23,7 +23,7 @@ pub extern "C" fn plan_probe_rounds(input: &[u8], rounds: u32) -> u32
 {
     let parsed = plan_input::parse(input);
     let form = parsed.form;
-    let mut number = task_lines::number(form);
+    let mut number = plan_answer::number(form);
     if number != 0 {
         return number;
     }

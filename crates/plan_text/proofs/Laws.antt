@@ -18,9 +18,9 @@ use Rattle.planning.specs.Input.{stationsOf, tasksOf, inputNumber}
 use Rattle.planning.specs.Output.{table, refusal, planOutput}
 use Rattle.planning.proofs.Meaning.{meaning, done}
 use Rattle.planning.proofs.Leaves.{leaves}
-use Rattle.task_lines.specs.declared.Form.{Form}
-use Rattle.task_lines.specs.declared.Form.the-variants.{Passed, TooLong, NotStations, NotTasks}
-use Rattle.task_lines.specs.Answer.{numberOf}
+use Rattle.plan_answer.specs.declared.Form.{Form}
+use Rattle.plan_answer.specs.declared.Form.the-variants.{Passed, TooLong, NotStations, NotTasks}
+use Rattle.plan_answer.specs.Answer.{numberOf}
 use Rattle.plan_output.proofs.Room.{table-room}
 
 -- A decline, and a table.

@@ -11,7 +11,7 @@ pub fn print_plan(input: &[u8], out: &mut [u8; 1024]) -> usize
 {
     let parsed = plan_input::parse(input);
     let form = parsed.form;
-    let number = task_lines::number(form);
+    let number = plan_answer::number(form);
     if number != 0 {
         return plan_output::put_refusal(out, number);
     }

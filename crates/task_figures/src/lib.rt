@@ -17,7 +17,7 @@ pub struct Figures {
 }
 
 // "On time means R repeats below the deadline": an R that ends the sequence below it repeats. Ruled out: on time at the
-// deadline; late below it.
+// deadline.
 fn verdict(deadline: u32, response: u64) -> Verdict
     ensures { λ r. ⌜ r ≡ verdictOf deadline response ⌝ }
 {
@@ -61,7 +61,7 @@ pub fn fill_tasks(tasks: [Task; 32], figures: Figures, count: usize) -> [Task; 3
     filled
 }
 
-// An array with no task in it. Ruled out: a record that is on time.
+// An array with no task in it.
 pub fn no_tasks() -> [Task; 32]
     ensures { λ r. ⌜ r ≡ replicate maxTasks records.blank ⌝ }
 {

@@ -15,8 +15,9 @@ use Rattle.planning.specs.Records.{blank}
 use Rattle.planning.specs.Parts.{lineFeed, parts, lastOf}
 use Rattle.planning.specs.Input.{linesOf, isTaskLine, isTaskLines, taskAt}
 use Rattle.lists.proofs.Tests.{either, and-false, both-false}
-use Rattle.task_lines.specs.declared.Form.the-variants.{Passed, NotTasks}
-use Rattle.task_lines.specs.Answer.{table, refused, tableOf}
+use Rattle.plan_answer.specs.declared.Form.the-variants.{Passed, NotTasks}
+use Rattle.plan_answer.specs.Answer.{table, refused}
+use Rattle.task_lines.specs.Lines.{tableOf}
 use Rattle.plan_words.proofs.PartLaws.{partsFrom, Ended, from-inside, from-past, parts-some}
 use Rattle.plan_words.proofs.ReadingLaws.{Reading, reading-none, reading-part, reading-more, line-counts, line-fails, last-part, lines-count, lines-pass, lines-stored}
 

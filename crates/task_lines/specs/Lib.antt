@@ -1,2 +1,2 @@
--- The answer about an input.
-pub mod Answer
+-- What question 17 says.
+pub mod Lines

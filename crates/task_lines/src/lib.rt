@@ -1,13 +1,15 @@
 // The task lines of the plan program's input (document 01, "The standing table"): "one line a task, `period deadline cost1 ..
-// costN`", "each line ended by a line feed"; and the answer about an input.
+// costN`", "each line ended by a line feed".
 ghost use mathlib.Core.Path.{_≡_};
 ghost use Prim.Native.Nat.{_≤_};
 ghost use lib.ListN.{length, drop};
 ghost use Rattle.model.specs.Limits.{maxStations};
 ghost use Rattle.planning.specs.Parts.{lineFeed, parts};
 ghost use Rattle.planning.specs.Input.{taskOf};
-ghost use Rattle.task_lines.specs.Answer.{numberOf, tableOf};
-ghost use Rattle.task_lines.specs.Answer as defined;
+ghost use Rattle.task_lines.specs.Lines.{tableOf};
+use plan_answer::Form;
+use plan_answer::Parsed;
+use plan_answer::refused;
 use plan_lines::MAX_NUMBERS;
 use plan_lines::read_line;
 use plan_words::part_end;
@@ -20,35 +22,6 @@ pub const LINE_FEED: u8 = b'\n';
 
 // Period and deadline, which stand before the costs.
 const BEFORE_COSTS: usize = 2;
-
-// The question of the form that was answered "no", or that none was. `numberOf` has document 01's number for each.
-pub enum Form {
-    Passed,
-    TooLong,
-    NotStations,
-    NotTasks,
-}
-
-// What an input says: its form, and if that passed N and the tasks, which stand in the first `count` places; zeros and blank
-// records otherwise. (An enum that holds an array is not covered by the borrow checker.)
-pub struct Parsed {
-    pub form: Form,
-    pub n: u32,
-    pub count: usize,
-    pub tasks: [Task; MAX_TASKS],
-}
-
-// Document 01's number for a form. Ruled out: 0 for a "no"; one number for two forms.
-pub fn number(form: Form) -> u32
-    ensures { λ r. ⌜ r ≡ numberOf form ⌝ }
-{
-    match form {
-        Form::Passed => 0,
-        Form::TooLong => 15,
-        Form::NotStations => 16,
-        Form::NotTasks => 17,
-    }
-}
 
 // The task of a line's numbers, which are zeros after the last cost. Plan fills in the other figures. Ruled out: the
 // period for the deadline.
@@ -71,19 +44,6 @@ fn task_of(numbers: [u32; MAX_NUMBERS]) -> Task
         base: 0,
         response: 0,
         verdict: Verdict::Late,
-    }
-}
-
-// The answer where the form did not pass. Ruled out: a count of tasks.
-pub fn refused(form: Form) -> Parsed
-    ensures { λ r. ⌜ r ≡ defined.refused form ⌝ }
-{
-    let tasks = no_tasks();
-    Parsed {
-        form: form,
-        n: 0,
-        count: 0,
-        tasks: tasks,
     }
 }
 

@@ -7,7 +7,7 @@ ghost use Rattle.model.specs.Lists as lists;
 use model::limits::MAX_COST;
 use model::limits::MAX_STATIONS;
 
-// The stations up to n that a record has costs for. Ruled out: 9 for nine stations.
+// The stations up to n that a record has costs for.
 pub fn in_record(n: u32) -> usize
     ensures { λ r. ⌜ (r ≡ min n maxStations) × (r ≤ maxStations) ⌝ }
 {
@@ -24,7 +24,7 @@ fn larger(a: u32, b: u32) -> u32
     if a < b { b } else { a }
 }
 
-// The largest cost at the first stations. Ruled out: the cost at the last of them; 1 where there are none.
+// The largest cost at the first stations. Ruled out: the cost at the last of them.
 pub fn largest_cost(costs: [u32; 8], stations: usize) -> u32
     requires { ⌜ stations ≤ maxStations ⌝ }
     ensures { λ r. ⌜ r ≡ lists.largest (take stations costs) ⌝ }

@@ -1,7 +1,7 @@
 -- The records are blank ones, as `no_tasks` makes them.
 use borrow.Author.Needs.{needs}
-use Rattle.task_lines.proofs.refused.Statement.{statement}
-use Rattle.task_lines.proofs.refused.Tie as tie
+use Rattle.plan_answer.proofs.refused.Statement.{statement}
+use Rattle.plan_answer.proofs.refused.Tie as tie
 
 no-tasks-requires : tie.Need-no-tasks-requires
 no-tasks-requires c κs = search needs

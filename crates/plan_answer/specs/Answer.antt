@@ -1,16 +1,15 @@
--- The answer about an input: document 01's number for each form, and what question 17 says of the task lines.
+-- The answer about an input: document 01's number for each form, and the task set that goes with it.
 use mathlib.Core.Bool.{Bool, true, false}
-use mathlib.Core.List.{List, map}
+use mathlib.Core.List.{List}
 use Prim.Native.Nat.{ℕ}
 use lib.ListN.{length, replicate}
 use Rattle.planning.specs.declared.Task.{Task}
 use Rattle.planning.specs.Limits.{maxTasks}
 use Rattle.planning.specs.Records.{blank}
-use Rattle.planning.specs.Input.{linesOf, isTaskLines, taskAt}
 use Rattle.plan_words.specs.Padded.{padded}
-use Rattle.task_lines.specs.declared.Form.{Form}
-use Rattle.task_lines.specs.declared.Form.the-variants.{Passed, TooLong, NotStations, NotTasks}
-use Rattle.task_lines.specs.declared.Parsed.{Parsed}
+use Rattle.plan_answer.specs.declared.Form.{Form}
+use Rattle.plan_answer.specs.declared.Form.the-variants.{Passed, TooLong, NotStations, NotTasks}
+use Rattle.plan_answer.specs.declared.Parsed.{Parsed}
 
 -- 0 where every question of the form was answered "yes", otherwise the question's number.
 abbrev pub numberOf : Form → ℕ
@@ -30,7 +29,3 @@ refused form = record { form = form; n = 0; count = 0; tasks = replicate maxTask
 abbrev pub asked : Bool → Form → Parsed → Parsed
 asked true form rest = rest
 asked false form rest = refused form
-
--- Question 17, of the parts that follow the first line.
-unfoldable pub tableOf : ℕ → List (List ℕ) → Parsed
-tableOf n ps = asked (isTaskLines n ps) NotTasks (table n (map taskAt (linesOf ps)))

@@ -1,0 +1,2 @@
+-- The answer about an input.
+pub mod Answer
