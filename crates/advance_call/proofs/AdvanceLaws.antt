@@ -18,7 +18,8 @@ use Rattle.image.specs.Pipeline.{padded, listed}
 use Rattle.image.proofs.TwoForms.{listed-padded}
 use Rattle.roundtrip.specs.SoundFacts.{SoundInRange}
 use Rattle.roundtrip.specs.Usable.{Usable}
-use Rattle.roundtrip.proofs.Questions.{gives-other, decides, passed, four-say}
+use Rattle.lists.proofs.Questions.{gives-other, decides, passed}
+use Rattle.roundtrip.proofs.Questions.{four-say}
 use Rattle.advances.proofs.Exact.{advance-numbers}
 use Rattle.advances.proofs.Advance.{advance-sound}
 use Rattle.dispatch.specs.declared.Advanced.{Advanced}

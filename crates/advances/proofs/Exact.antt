@@ -19,7 +19,8 @@ use Rattle.roundtrip.specs.Iff.{_⇔_}
 use Rattle.roundtrip.specs.Usable.{Usable}
 use Rattle.roundtrip.proofs.Tests.{leb-says}
 use Rattle.roundtrip.proofs.Facts.{sound-says}
-use Rattle.roundtrip.proofs.Questions.{gives-other, first-no, four-say}
+use Rattle.lists.proofs.Questions.{gives-other}
+use Rattle.roundtrip.proofs.Questions.{first-no, four-say}
 use Rattle.advances.specs.Exact.{AdvanceNumbers}
 
 -- Question 13 by its answer.

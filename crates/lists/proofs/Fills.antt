@@ -1,13 +1,13 @@
 -- `upward`, the list f 0, f 1, .. f (n - 1): what a loop that fills an array from the front keeps, and what a loop that writes rows keeps.
 use mathlib.Core.Path.{_≡_, refl, sym, ap, _∙_}
-use mathlib.Core.List.{List, [], _∷_, _++_, map, append-assoc, append-nil}
+use mathlib.Core.List.{List, [], _∷_, _++_, map, append-assoc, append-nil, map-append}
 use mathlib.Core.Logic.{⊎-elim}
 use Prim.Native.Nat.{ℕ, zero, suc, _+_, _-_, _*_, _≤_, _<_}
 use native.Mathlib.Nat.{add-zero, zero-add, sub-zero, mul-suc, mul-zero, mul-le-mul-left, eq-or-lt-of-le, le-of-suc-le-suc}
 use native.Mathlib.Numerals.{add-one}
 use native.Mathlib.Omega.{arith}
 use lib.ListN.{length, getD, set, take, drop, replicate, length-append, length-drop, length-map}
-use lib.Seq.{take-suc-set, take-all, length-take-le, getD-take, set-at, drop-cons, drop-at, take-append-le, drop-append-le}
+use lib.Seq.{take-suc, take-suc-set, take-all, length-take-le, getD-take, set-at, drop-cons, drop-at, take-append-le, drop-append-le, getD-append-add, getD-drop, set-append-seam}
 use Rattle.model.specs.declared.Order.{Order}
 use Rattle.model.specs.Lists.{upward, concat, part}
 use Rattle.lists.specs.Stored.{Stored}
@@ -159,20 +159,29 @@ rows-more {f} {size} {l} {m} {t} {at} {j} {i} p e q h =
       long = rw (more, length-append, p .long, h, add-one, mul-suc) (omega arith);
     }
 
--- A loop that replaces the entries of an array one by one: the first i are done.
+-- A loop that replaces the entries of an array one by one: p stands in the place of the first i. The next entry is as it was, and gets its new value.
+module _ {A : Type 0} (p l : List A) (i : ℕ) (done : length p ≡ i) where
+  pub front-read : (d : A) → getD (p ++ drop i l) i d ≡ getD l i d
+  front-read d =
+      let here : getD (p ++ drop i l) (length p + 0) d ≡ getD l (i + 0) d = getD-append-add p (drop i l) 0 d ∙ getD-drop i l 0 d in
+      rw (add-zero (length p), add-zero i, done) at here
+
+  pub front-set : (v : A) → i < length l → set (p ++ drop i l) i v ≡ (p ++ (v ∷ [])) ++ drop (i + 1) l
+  front-set v h =
+      let there : set (p ++ getD l i v ∷ drop (suc i) l) i v ≡ p ++ v ∷ drop (suc i) l = rw done at (set-append-seam p (getD l i v) (drop (suc i) l) v) in
+      rw (drop-cons l i v h, there, add-one, append-assoc)
+
+-- Its new value is of the old one.
 module _ {A : Type 0} (f : A → A) (d : A) where
   pub replaced-read : (l : List A) (i : ℕ) → getD (map f (take i l) ++ drop i l) i d ≡ getD l i d
   replaced-read l zero = refl
   replaced-read [] (suc i) = refl
   replaced-read (x ∷ l) (suc i) = replaced-read l i
 
-  replaced : (l : List A) (i : ℕ) → i < length l → set (map f (take i l) ++ drop i l) i (f (getD l i d)) ≡ map f (take (suc i) l) ++ drop (suc i) l
-  replaced [] i h = absurd (let z : ⊥ = omega (arith, h) in z)
-  replaced (x ∷ l) zero h = refl
-  replaced (x ∷ l) (suc i) h = ap (λ (m : List A). f x ∷ m) (replaced l i (le-of-suc-le-suc h))
-
   pub replaced-next : (l m : List A) (i : ℕ) (v : A) → i < length l → m ≡ map f (take i l) ++ drop i l → v ≡ f (getD l i d) → set m i v ≡ map f (take (i + 1) l) ++ drop (i + 1) l
-  replaced-next l m i v h e q = rw (e, q, add-one i) (replaced l i h)
+  replaced-next l m i v h e q =
+      let long : length (map f (take i l)) ≡ i = length-map (take i l) f ∙ length-take-le i l (omega arith) in
+      rw (e, q, front-set (map f (take i l)) l i long (f (getD l i d)) h, add-one i, take-suc l i d h, map-append f (take i l) (getD l i d ∷ []))
 
 -- What is read past the end of an array of records: a record with no entries in its arrays.
 abbrev pub past : Order

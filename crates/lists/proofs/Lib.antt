@@ -2,6 +2,7 @@
 pub mod Stores
 pub mod Fills
 pub mod Tests
+pub mod Questions
 pub mod Maxima
 pub mod Overlays
 pub mod Signs

@@ -185,7 +185,7 @@ module _ {A B : Type 0} (f : ℕ → A → B) where
       let n : suc i ≡ 1 + i = omega arith in
       rw n (getD-from 1 l i d e h)
 
-  numbered-append : (k : ℕ) (l m : List A) → numbered f k (l ++ m) ≡ numbered f k l ++ numbered f (k + length l) m
+  pub numbered-append : (k : ℕ) (l m : List A) → numbered f k (l ++ m) ≡ numbered f k l ++ numbered f (k + length l) m
   unfolding numbered
   numbered-append k [] m = rw (add-zero k)
   numbered-append k (x ∷ l) m =

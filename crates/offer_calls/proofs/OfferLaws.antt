@@ -15,7 +15,8 @@ use Rattle.model.specs.Questions.{Question, _else_, firstNo, zeros}
 use Rattle.model.specs.Admission.{blockOf, blockLengthQuestion, blockQuestions, stateQuestions, orderQuestions, offerAnswer, quoteAnswer}
 use Rattle.model.specs.Calls.{replyQuestion, lengthQuestion, imageQuestions, offerNumber, offerCall, quoteCall}
 use Rattle.lists.proofs.Tests.{and-both, all-append}
-use Rattle.roundtrip.proofs.Questions.{answer, gives-other, decides, passed, after, four-say}
+use Rattle.lists.proofs.Questions.{answer, gives-other, decides, passed, after}
+use Rattle.roundtrip.proofs.Questions.{four-say}
 use Rattle.call_results.specs.Gives.{Gives}
 use Rattle.call_results.specs.Declined.{declinedReply}
 use Rattle.call_results.proofs.Declines.{declines}

@@ -23,7 +23,8 @@ use Rattle.roundtrip.specs.Iff.{_⇔_}
 use Rattle.roundtrip.proofs.Tests.{Says, leb-says, ltb-says, eqb-says, and-says, within-says, entries-say}
 use Rattle.roundtrip.proofs.Clauses.{zero-beyond, costs-say}
 use Rattle.roundtrip.proofs.Facts.{sound-says}
-use Rattle.roundtrip.proofs.Questions.{answer, gives-other, first-no}
+use Rattle.lists.proofs.Questions.{answer, gives-other}
+use Rattle.roundtrip.proofs.Questions.{first-no}
 use Rattle.offers.specs.Considered.{Fitting, Considered}
 
 -- Questions 11 and 12 by their answers.

@@ -1,12 +1,12 @@
 -- The outcome for a list of records is plan's number, and its steps leave the list as plan does.
-use mathlib.Core.Path.{_≡_, refl, sym, ap, _∙_}
+use mathlib.Core.Path.{_≡_, refl, sym, _∙_}
 use mathlib.Core.Bool.{Bool, true, false}
 use mathlib.Core.List.{List, [], _∷_, append-nil}
-use Prim.Native.Nat.{ℕ, zero, suc, _-_, _≤_, _<_, min}
+use Prim.Native.Nat.{ℕ, _-_, _≤_, _<_, min}
 use native.Mathlib.Nat.{min-eq-left, zero-add}
 use native.Mathlib.Omega.{arith}
-use lib.ListN.{length, getD, take, drop, replicate, drop-of-length-le, length-take}
-use lib.Seq.{take-all, take-at, getD-take, length-take-le, ext-getD}
+use lib.ListN.{length, getD, take, drop, replicate, drop-of-length-le}
+use lib.Seq.{take-all, take-at, length-take-le, ext-getD}
 use borrow.Author.Tests.{eqb-true}
 use Rattle.model.specs.Limits.{maxStations}
 use Rattle.model.specs.Lists.{within, isZero, all, numbered}
@@ -21,18 +21,10 @@ use Rattle.task_figures.specs.declared.Figures.{Figures}
 use Rattle.planning.specs.Records.{beyond, blank}
 use Rattle.task_table.specs.Table.{tableTo}
 use Rattle.task_figures.specs.Figures.{filled, filledTo}
-use Rattle.task_table.proofs.Tables.{ranged-is}
-use Rattle.task_figures.proofs.Filled.{filled-is}
 use Rattle.plan_figures.specs.Figures.{figuresOf}
 use Rattle.plan_core.specs.Outcome.{numberOf, outcomeWhere, outcomeOf, heldOf, planOf, leftBy}
 use Rattle.plan_core.proofs.Passing.{passed}
 use Rattle.plan_figures.proofs.Same.{base-same, response-is, front}
-
--- The table of the records that the array holds is the table of the list.
-table-held : (stations k : ℕ) (xs ys : List Task) → ((i : ℕ) → i < k → getD xs i beyond ≡ getD ys i beyond) → tableTo stations k xs ≡ tableTo stations k ys
-unfolding tableTo
-table-held stations zero xs ys same = refl
-table-held stations (suc k) xs ys same = rw (table-held stations k xs ys (λ i h. same i (omega arith)), same k (omega arith))
 
 module _ (xs : List Task) where
   abbrev held : ℕ
@@ -45,14 +37,16 @@ module _ (xs : List Task) where
   unfolding heldOf
   held-first = take-at (take held xs) (drop held (replicate maxTasks blank)) held held-length
 
+  -- The table of the records that the array holds is the table of the list.
   table-same : (stations : ℕ) → tableTo stations held (heldOf xs) ≡ tableTo stations held xs
-  table-same stations =
-      table-held stations held (heldOf xs) xs (λ i h. sym (getD-take held (heldOf xs) i beyond h) ∙ rw held-first (getD-take held xs i beyond h))
+  unfolding tableTo
+  table-same stations = rw held-first
 
 -- Question 18 where the two before it pass.
 ranged-same : (n : ℕ) (xs : List Task) → n ≤ maxStations → length xs ≤ maxTasks → tableTo (min n maxStations) (min (length xs) maxTasks) (heldOf xs) .«in_range» ≡ all (inRange n) xs
+unfolding tableTo
 ranged-same n xs h k =
-    rw (table-same xs (min n maxStations), min-eq-left h, min-eq-left k) (ranged-is n xs (length xs) (omega arith) ∙ rw (take-all (length xs) xs (omega arith)))
+    rw (held-first xs, min-eq-left h, min-eq-left k, take-all (length xs) xs (omega arith))
 
 number-same : (n : ℕ) (xs : List Task) → numberOf n (length xs) (tableTo (min n maxStations) (min (length xs) maxTasks) (heldOf xs) .«in_range») ≡ planNumber n xs
 unfolding numberOf planNumber planQuestions firstNo
@@ -101,12 +95,10 @@ module _ (n : ℕ) (xs : List Task) (few : length xs ≤ maxTasks) where
   held-all : take (length xs) (heldOf xs) ≡ xs
   held-all = (rw (min-eq-left few) at (held-first xs)) ∙ take-all (length xs) xs (omega arith)
 
-  held-long : length xs ≤ length (heldOf xs)
-  held-long = omega (arith, ap length held-all, length-take (length xs) (heldOf xs))
-
   done-held : take (length xs) (filledTo figures (length xs) (heldOf xs)) ≡ planned n xs
+  unfolding filledTo
   done-held =
-      rw (filled-is figures (length xs) (heldOf xs) held-long, held-all, take-at (numbered (filled figures) 0 xs) (drop (length xs) (heldOf xs)) (length xs) (length-numbered (filled figures) 0 xs)) done-numbered
+      rw (held-all, take-at (numbered (filled figures) 0 xs) (drop (length xs) (heldOf xs)) (length xs) (length-numbered (filled figures) 0 xs)) done-numbered
 
 left-where : (n : ℕ) (xs : List Task) (b : Bool) → isZero (planNumber n xs) ≡ b → leftBy (outcomeWhere b (planNumber n xs) (length xs) (tableTo (min n maxStations) (min (length xs) maxTasks) (heldOf xs)) (heldOf xs)) xs ≡ leftWhere b (planned n xs) xs
 unfolding leftBy

@@ -1,2 +1,2 @@
--- What the core gives over plain numbers.
+-- What the core gives.
 pub mod Outcome

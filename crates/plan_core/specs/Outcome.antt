@@ -1,4 +1,4 @@
--- Plan over plain numbers: its number, how many records get figures, and the figures.
+-- Plan over an array of records: its number, how many records are to be written back, and the records.
 use mathlib.Core.Bool.{Bool, true, false}
 use mathlib.Core.List.{List, [], _∷_, _++_}
 use Prim.Native.Nat.{ℕ, min}

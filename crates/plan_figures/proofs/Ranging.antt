@@ -1,5 +1,5 @@
 -- What is known of the table of records that are all in range.
-use mathlib.Core.Path.{_≡_, sym, _∙_}
+use mathlib.Core.Path.{_≡_}
 use mathlib.Core.Bool.{true}
 use mathlib.Core.List.{List}
 use Prim.Native.Nat.{ℕ, _-_, _≤_, _<_}
@@ -7,7 +7,6 @@ use native.Mathlib.Omega.{arith}
 use lib.ListN.{length, getD, take}
 use lib.Seq.{getD-take, length-take-le}
 use Rattle.model.specs.Limits.{maxStations}
-use Rattle.model.specs.Lists.{all}
 use Rattle.lists.proofs.Tests.{all-at}
 use Rattle.planning.specs.Limits.{maxTasks}
 use Rattle.planning.specs.declared.Task.{Task}
@@ -16,29 +15,27 @@ use Rattle.planning.specs.Plan.{inRange}
 use Rattle.planning.proofs.Ranges.{InRange, in-range, stages-most}
 use Rattle.planning.specs.Records.{beyond}
 use Rattle.task_table.specs.Table.{tableTo}
-use Rattle.task_table.proofs.Tables.{ranged-is, periods-are, deadlines-are, costs-are, stages-are}
+use Rattle.task_table.proofs.Tables.{periods-are, deadlines-are, costs-are, stages-are}
 use Rattle.plan_figures.specs.Figures.{RangedTable}
 use Rattle.plan_figures.proofs.Same.{front}
 
-pub table-ranged : (stations k : ℕ) (xs : List Task) → stations ≤ maxStations → k ≤ maxTasks → k ≤ length xs → tableTo stations k xs .«in_range» ≡ true → RangedTable k (tableTo stations k xs)
-table-ranged stations k xs narrow few inside-list e =
+pub table-ranged : (stations k : ℕ) (xs : List Task) → stations ≤ maxStations → k ≤ length xs → tableTo stations k xs .«in_range» ≡ true → RangedTable k (tableTo stations k xs)
+unfolding tableTo
+table-ranged stations k xs narrow inside-list all-ranged =
     record {
       tasks = record {
         period-low = λ i h. rw (period i h) (each i h .period-low);
         period-high = λ i h. rw (period i h) (each i h .period-high);
-        cost-high = λ i h. rw (costs-are stations xs k few, front k (maxTasks - k) i (λ j. largestCost stations (getD xs j beyond)) h) (each i h .cost-high);
+        cost-high = λ i h. rw (costs-are stations xs k inside-list, front k (maxTasks - k) i (λ j. largestCost stations (getD xs j beyond)) h) (each i h .cost-high);
       };
-      deadline-high = λ i h. rw (deadlines-are stations xs k few, front k (maxTasks - k) i (λ j. getD xs j beyond .deadline) h) (omega (arith, each i h .deadline-high, each i h .period-high));
-      maxima-high = rw (stages-are stations xs k inside-list) (stages-most stations (take k xs) narrow all-ranged);
+      deadline-high = λ i h. rw (deadlines-are stations xs k inside-list, front k (maxTasks - k) i (λ j. getD xs j beyond .deadline) h) (omega (arith, each i h .deadline-high, each i h .period-high));
+      maxima-high = rw (stages-are stations xs k) (stages-most stations (take k xs) narrow all-ranged);
     }
   where
-    all-ranged : all (inRange stations) (take k xs) ≡ true
-    all-ranged = sym (ranged-is stations xs k inside-list) ∙ e
-
     each : (i : ℕ) → i < k → InRange stations (getD xs i beyond)
     each i h =
         let there : getD (take k xs) i beyond ≡ getD xs i beyond = getD-take k xs i beyond h in
         in-range stations (getD xs i beyond) (rw there at (all-at (inRange stations) beyond (take k xs) i (omega (arith, length-take-le k xs inside-list)) all-ranged))
 
     period : (i : ℕ) → i < k → getD (tableTo stations k xs .periods) i 0 ≡ getD xs i beyond .period
-    period i h = rw (periods-are stations xs k few) (front k (maxTasks - k) i (λ j. getD xs j beyond .period) h)
+    period i h = rw (periods-are stations xs k inside-list) (front k (maxTasks - k) i (λ j. getD xs j beyond .period) h)

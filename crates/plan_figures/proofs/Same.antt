@@ -32,17 +32,17 @@ module _ (n : ℕ) (xs : List Task) (few : length xs ≤ maxTasks) where
   at i = getD xs i beyond
 
   pub period-at : (i : ℕ) → i < count → getD (tableTo n count xs .periods) i 0 ≡ at i .period
-  period-at i h = rw (periods-are n xs count few) (front count (maxTasks - count) i (λ j. at j .period) h)
+  period-at i h = rw (periods-are n xs count (omega arith)) (front count (maxTasks - count) i (λ j. at j .period) h)
 
   pub deadline-at : (i : ℕ) → i < count → getD (tableTo n count xs .deadlines) i 0 ≡ at i .deadline
-  deadline-at i h = rw (deadlines-are n xs count few) (front count (maxTasks - count) i (λ j. at j .deadline) h)
+  deadline-at i h = rw (deadlines-are n xs count (omega arith)) (front count (maxTasks - count) i (λ j. at j .deadline) h)
 
   pub cost-at : (i : ℕ) → i < count → getD (tableTo n count xs .costs) i 0 ≡ largestCost n (at i)
-  cost-at i h = rw (costs-are n xs count few) (front count (maxTasks - count) i (λ j. largestCost n (at j)) h)
+  cost-at i h = rw (costs-are n xs count (omega arith)) (front count (maxTasks - count) i (λ j. largestCost n (at j)) h)
 
   pub base-same : (i : ℕ) → i < count → baseAt (tableTo n count xs .costs) (total (tableTo n count xs .maxima)) i ≡ base n xs (at i)
   unfolding baseAt base
-  base-same i h = rw (cost-at i h, stages-are n xs count (omega arith), take-all count xs (omega arith))
+  base-same i h = rw (cost-at i h, stages-are n xs count, take-all count xs (omega arith))
 
   share-same : (R j : ℕ) → j < count → shareAt (tableTo n count xs .periods) (tableTo n count xs .deadlines) (tableTo n count xs .costs) R j ≡ share n R (at j)
   unfolding shareAt share

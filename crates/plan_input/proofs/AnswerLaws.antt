@@ -1,6 +1,6 @@
 -- What the answer tells a caller: the number of the first question of the form that is answered "no"; of an input whose form passed, N and the tasks, and that
 -- the questions left are plan's.
-use mathlib.Core.Path.{_≡_, refl, sym, ap, _∙_}
+use mathlib.Core.Path.{_≡_, refl, sym, _∙_}
 use mathlib.Core.Bool.{Bool, true, false, _&&_}
 use mathlib.Core.List.{List, [], _∷_}
 use Prim.Native.Nat.{ℕ, _-_}
@@ -17,9 +17,11 @@ use Rattle.planning.specs.Records.{blank}
 use Rattle.planning.specs.Parts.{lineFeed, parts, lastOf}
 use Rattle.planning.specs.Number.{isNumber, valueOf}
 use Rattle.planning.specs.Input.{linesOf, lines, isStations, stationsOf, isTaskLine, isTaskLines, taskAt, tasksOf, formQuestions, inputQuestions, inputNumber}
-use Rattle.planning.specs.Plan.{inRange, planQuestions, planNumber}
+use Rattle.planning.specs.Plan.{planQuestions, planNumber}
 use Rattle.planning.proofs.Ranges.{inside}
 use Rattle.lists.proofs.Tests.{and-both}
+use Rattle.lists.proofs.Questions.{gives-other, decides, three-pass}
+use Rattle.lists.proofs.Questions as questions
 use Rattle.plan_words.specs.Padded.{padded}
 use Rattle.plan_answer.specs.declared.Form.the-variants.{TooLong, NotStations, NotTasks}
 use Rattle.plan_answer.specs.declared.Parsed.{Parsed}
@@ -37,21 +39,6 @@ three-number true true true n tasks = refl
 three-number true true false n tasks = refl
 three-number true false c n tasks = refl
 three-number false b c n tasks = refl
-
-three-passed : (a b c : Bool) (n : ℕ) (tasks : List Task) → numberOf (threeAsked a b c (table n tasks) .form) ≡ 0 → (a ≡ true) × (b ≡ true) × (c ≡ true)
-unfolding table
-three-passed true true true n tasks e = (refl, refl, refl)
-three-passed true true false n tasks e = absurd (let z : ⊥ = omega arith in z)
-three-passed true false c n tasks e = absurd (let z : ⊥ = omega arith in z)
-three-passed false b c n tasks e = absurd (let z : ⊥ = omega arith in z)
-
--- A question more changes nothing where one of the three was answered "no".
-three-first : (a b c d : Bool) (k : ℕ) → (firstNo ((a else 15) ∷ (b else 16) ∷ (c else 17) ∷ []) ≡ 0 → ⊥) → firstNo ((a else 15) ∷ (b else 16) ∷ (c else 17) ∷ (d else k) ∷ []) ≡ firstNo ((a else 15) ∷ (b else 16) ∷ (c else 17) ∷ [])
-unfolding firstNo
-three-first true true true d k some = absurd (some refl)
-three-first true true false d k some = refl
-three-first true false c d k some = refl
-three-first false b c d k some = refl
 
 -- What the questions say of N and of the tasks.
 stations-within : (ls : List (List ℕ)) (input : List ℕ) → lines input ≡ ls → isStations ls ≡ true → within 1 maxStations (stationsOf input) ≡ true
@@ -106,17 +93,14 @@ module _ (input : List ℕ) {answer : Parsed} (is : answer ≡ parsed input) whe
 
   -- A "no" is the program's number.
   pub declined : (numberOf (answer .form) ≡ 0 → ⊥) → inputNumber input ≡ numberOf (answer .form)
-  unfolding inputNumber inputQuestions formQuestions
-  declined some =
-      three-first (isShort input) (hasStations input) (hasTasks input) (all (inRange (stationsOf input)) (tasksOf input)) 18 (λ z. some (answer-number ∙ z))
-      ∙ sym answer-number
+  unfolding inputNumber inputQuestions
+  declined some = sym (decides (formQuestions input) _ (numberOf (answer .form)) answer-number some)
 
   module _ (passed : numberOf (answer .form) ≡ 0) where
     answers : (isShort input ≡ true) × (hasStations input ≡ true) × (hasTasks input ≡ true)
-    unfolding parsed
+    unfolding formQuestions all gives-other
     answers =
-        three-passed (isShort input) (hasStations input) (hasTasks input) (stationsOf input) (tasksOf input)
-        (ap (λ (p : Parsed). numberOf (p .form)) (sym is) ∙ passed)
+        three-pass (isShort input) (hasStations input) (hasTasks input) 15 16 17 (questions.passed (formQuestions input) refl (sym answer-number ∙ passed))
 
     stations-fit : within 1 maxStations (stationsOf input) ≡ true
     stations-fit = stations-within (lines input) input refl (answers .1)

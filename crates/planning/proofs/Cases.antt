@@ -1,8 +1,8 @@
--- The worked tables hold.
+-- The worked tables hold, and so do the numbers.
 use mathlib.Core.Path.{_≡_, refl}
 use mathlib.Core.Bool.{true}
 use Rattle.model.specs.Lists.{all}
-use Rattle.planning.specs.Cases.{isPrinted, paperTables, chapterSix, largestResponse, readings}
+use Rattle.planning.specs.Cases.{isPrinted, paperTables, chapterSix, largestResponse, isNumbered, planNumbers, readings}
 
 pub paper-tables-hold : all isPrinted paperTables ≡ true
 unfolding all isPrinted
@@ -15,6 +15,10 @@ chapter-six-holds = refl {a = true}
 pub largest-response-holds : isPrinted largestResponse ≡ true
 unfolding isPrinted largestResponse
 largest-response-holds = refl {a = true}
+
+pub plan-numbers-hold : all isNumbered planNumbers ≡ true
+unfolding all isNumbered
+plan-numbers-hold = refl {a = true}
 
 pub readings-hold : all isPrinted readings ≡ true
 unfolding all isPrinted

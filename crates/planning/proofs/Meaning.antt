@@ -1,15 +1,15 @@
 -- What the figures of a done plan mean.
 use mathlib.Core.Path.{_≡_, refl, _∙_}
-use mathlib.Core.Bool.{Bool, true, false}
-use mathlib.Core.List.{List, [], _∷_}
+use mathlib.Core.Bool.{true}
+use mathlib.Core.List.{List}
 use Prim.Native.Nat.{ℕ, _≤_, _<_}
 use native.Mathlib.Nat.{zero-add}
 use native.Mathlib.Omega.{arith}
 use lib.ListN.{length, getD}
 use Rattle.model.specs.Limits.{maxStations}
 use Rattle.model.specs.Lists.{within, all}
-use Rattle.model.specs.Questions.{_else_, firstNo}
 use Rattle.lists.proofs.Tests.{all-at, getD-from}
+use Rattle.lists.proofs.Questions.{gives-other, passed, three-pass}
 use Rattle.planning.specs.declared.Task.{Task}
 use Rattle.planning.specs.Limits.{maxTasks}
 use Rattle.planning.specs.Base.{base}
@@ -29,21 +29,16 @@ pub record Done (n : ℕ) (tasks : List Task) : Type 0 where
   pub ranged : all (inRange n) tasks ≡ true
 
 pub done : (n : ℕ) (tasks : List Task) → planNumber n tasks ≡ 0 → Done n tasks
-unfolding planNumber planQuestions firstNo
-done n tasks = go (within 1 maxStations n) (within 1 maxTasks (length tasks)) (all (inRange n) tasks) refl refl refl
-  where
-    go : (a b c : Bool) → within 1 maxStations n ≡ a → within 1 maxTasks (length tasks) ≡ b → all (inRange n) tasks ≡ c → firstNo ((a else 14) ∷ (b else 17) ∷ (c else 18) ∷ []) ≡ 0 → Done n tasks
-    go true true true p q r e =
-        record {
-          n-low = inside 1 maxStations n p .0;
-          n-high = inside 1 maxStations n p .1;
-          count-low = inside 1 maxTasks (length tasks) q .0;
-          count-high = inside 1 maxTasks (length tasks) q .1;
-          ranged = r;
-        }
-    go true true false p q r e = absurd (let z : ⊥ = omega (arith, e) in z)
-    go true false c p q r e = absurd (let z : ⊥ = omega (arith, e) in z)
-    go false b c p q r e = absurd (let z : ⊥ = omega (arith, e) in z)
+unfolding planNumber planQuestions all gives-other
+done n tasks e =
+    let yes = three-pass (within 1 maxStations n) (within 1 maxTasks (length tasks)) (all (inRange n) tasks) 14 17 18 (passed (planQuestions n tasks) refl e) in
+    record {
+      n-low = inside 1 maxStations n (yes .0) .0;
+      n-high = inside 1 maxStations n (yes .0) .1;
+      count-low = inside 1 maxTasks (length tasks) (yes .1) .0;
+      count-high = inside 1 maxTasks (length tasks) (yes .1) .1;
+      ranged = yes .2;
+    }
 
 -- A task that all of the list's facts hold of has the meant figures.
 meant : (n : ℕ) (tasks : List Task) → Done n tasks → (k : ℕ) → k < length tasks → (t : Task) → inRange n t ≡ true

@@ -1,16 +1,18 @@
--- Worked tables: what the plan program prints for an input, whole.
+-- Worked tables: what the plan program prints for an input, whole; and which number plan returns for a list of records.
 use mathlib.Core.Bool.{Bool}
 use mathlib.Core.List.{List, [], _∷_, _++_}
 use Prim.Native.Nat.{ℕ}
 use lib.ListN.{replicate}
+use lib.Dec.{eqb}
 use Rattle.model.specs.Lists.{total, largest, larger, concat, all, same, numbered, upward}
 use Rattle.model.specs.Questions.{firstNo}
 use Rattle.model.specs.DelayBound.{maximaOf}
 use Rattle.text.specs.Ascii.{ascii}
 use Rattle.text.specs.Decimal.{digits, decimal}
+use Rattle.planning.specs.declared.Task.{Task}
 use Rattle.planning.specs.Base.{largestCost, stageMaxima, base}
 use Rattle.planning.specs.Response.{roundedUp, releases, share, others, next, ends, settled, responseFrom, verdictOf}
-use Rattle.planning.specs.Plan.{inRange, response, withFigures, figured, planned}
+use Rattle.planning.specs.Plan.{inRange, planQuestions, planNumber, response, withFigures, figured, planned}
 use Rattle.planning.specs.Parts.{parts, lastOf}
 use Rattle.planning.specs.Number.{isNumber, valueOf}
 use Rattle.planning.specs.Input.{linesOf, lines, isStations, stationsOf, isNumbers, isTaskLines, taskOf, taskAt, tasksOf, formQuestions, inputQuestions, inputNumber}
@@ -57,6 +59,40 @@ unfolding concat lateLines
 largestResponse =
     ascii "8\n60000 60000 6000 6000 6000 6000 6000 6000 6000 6000\n" ++ concat (replicate 31 (ascii "1 1 6000 1 1 1 1 1 1 1\n"))
     prints ascii "task base response verdict\n1 48000 8928048000 late\n" ++ lateLines
+
+-- Plan over task records: the number that it returns for these records, at so many stations.
+pub record Numbering : Type 0 where
+  pub stations : ℕ
+  pub tasks : List Task
+  pub number : ℕ
+
+unfoldable pub isNumbered : Numbering → Bool
+unfolding all firstNo inRange planQuestions planNumber taskOf
+isNumbered c = eqb (planNumber (c .stations) (c .tasks)) (c .number)
+
+-- A record in range at one station and at two, one in range at one station alone, and one that is out of range.
+abbrev good : Task
+good = taskOf (10 ∷ 10 ∷ 2 ∷ 3 ∷ [])
+
+abbrev narrow : Task
+narrow = taskOf (10 ∷ 10 ∷ 2 ∷ [])
+
+abbrev bad : Task
+bad = taskOf (10 ∷ 11 ∷ 2 ∷ 3 ∷ [])
+
+-- "It declines N by 14, a count outside 1 to 32 by 17, and figures out of range by 18, in that order": where two or three of them fit, the first. "Costs
+-- beyond N are not read."
+abbrev pub planNumbers : List Numbering
+planNumbers =
+    record { stations = 2; tasks = replicate 32 good; number = 0 }
+    ∷ record { stations = 0; tasks = good ∷ []; number = 14 }
+    ∷ record { stations = 9; tasks = replicate 33 bad; number = 14 }
+    ∷ record { stations = 2; tasks = []; number = 17 }
+    ∷ record { stations = 2; tasks = replicate 33 bad; number = 17 }
+    ∷ record { stations = 2; tasks = good ∷ bad ∷ []; number = 18 }
+    ∷ record { stations = 2; tasks = narrow ∷ []; number = 18 }
+    ∷ record { stations = 1; tasks = narrow ∷ []; number = 0 }
+    ∷ []
 
 -- What document 01 leaves to be read, and the readings of docs/DECISIONS.md: the base is tested; an input without a line feed has no first line; a number of
 -- ten digits is no number; a lone 0 is one, and out of range; 17 is asked of the whole input before 18 of any task.

@@ -1,8 +1,8 @@
--- Laws of the first "no" among questions: it decides whatever is asked after it, and questions that all pass leave it to those after them. Questions 1 to 4 pass where what is lent is usable.
-use mathlib.Core.Path.{_≡_, refl, sym, ap, _∙_}
+-- Which number the first "no" among questions gives, exactly; and that questions 1 to 4 pass where what is lent is usable.
+use mathlib.Core.Path.{_≡_, refl, sym}
 use mathlib.Core.Logic.{inl, inr}
-use mathlib.Core.Bool.{Bool, true, false, not, true≢false}
-use mathlib.Core.List.{List, [], _∷_, _++_, append-nil}
+use mathlib.Core.Bool.{true, false, not, true≢false}
+use mathlib.Core.List.{List, [], _∷_, _++_}
 use Prim.Native.Nat.{ℕ}
 use lib.ListN.{length}
 use lib.Dec.{eqb}
@@ -13,17 +13,11 @@ use Rattle.model.specs.Image.{marked}
 use Rattle.model.specs.Soundness.{sound}
 use Rattle.model.specs.Questions.{Question, _else_, firstNo}
 use Rattle.model.specs.Calls.{replyQuestion, lengthQuestion, imageQuestions}
+use Rattle.lists.proofs.Questions.{answer, gives-other}
 use Rattle.schedule.proofs.Laws.{and-both, eqb-cases}
 use Rattle.roundtrip.specs.Iff.{_⇔_}
 use Rattle.roundtrip.specs.Usable.{Usable}
 use Rattle.roundtrip.proofs.Tests.{Says, eqb-says}
-
--- A question's answer, and whether its "no" gives another number than n.
-unfoldable pub answer : Question → Bool
-answer (b else number) = b
-
-unfoldable pub gives-other : ℕ → Question → Bool
-gives-other n (b else number) = not (eqb number n)
 
 -- A number that none of the first questions gives comes from those after them, where all of the first pass.
 pub first-no : (n : ℕ) (l m : List Question) → all (gives-other n) l ≡ true → (firstNo (l ++ m) ≡ n) ⇔ ((all answer l ≡ true) × (firstNo m ≡ n))
@@ -35,24 +29,6 @@ first-no n ((false else k) ∷ l) m h =
       only = λ e. absurd (eqb-false k n (not-true (eqb k n) (and-both (not (eqb k n)) (all (gives-other n) l) h .0)) e);
       if = λ t. absurd (true≢false (sym (t .0)));
     }
-
--- A "no" decides, whatever is asked after it.
-pub decides : (l m : List Question) (k : ℕ) → k ≡ firstNo l → (k ≡ 0 → ⊥) → k ≡ firstNo (l ++ m)
-unfolding firstNo
-decides [] m k e some = absurd (some e)
-decides ((true else j) ∷ l) m k e some = decides l m k e some
-decides ((false else j) ∷ l) m k e some = e
-
--- Questions whose numbers are not 0 all pass where 0 comes out, and those after them decide.
-pub passed : (l : List Question) → all (gives-other 0) l ≡ true → firstNo l ≡ 0 → all answer l ≡ true
-unfolding firstNo
-passed l h e = first-no 0 l [] h .only (ap firstNo (append-nil l) ∙ e) .0
-
-pub after : (l m : List Question) → all answer l ≡ true → firstNo m ≡ firstNo (l ++ m)
-unfolding all firstNo answer
-after [] m h = refl
-after ((true else j) ∷ l) m h = after l m h
-after ((false else j) ∷ l) m h = absurd (true≢false (sym h))
 
 -- Question 1 alone gives 1 where it comes first.
 pub replied : (reply : List ℕ) (rest : List Question) → (firstNo (replyQuestion reply ∷ rest) ≡ 1 → ⊥) → length reply ≡ replySize

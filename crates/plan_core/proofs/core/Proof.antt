@@ -47,7 +47,7 @@ figures-requires c κs =
     let all : held .result ≡ a .count = held .ensures .0 ∙ min-eq-left (p .count-high) in
     let long : length (a .tasks) ≡ 32 = search needs in
     let is : table .result ≡ tableTo (record-of .result) (a .count) (a .tasks) = rw all at (table .ensures) in
-    (p .count-high, rw is (table-ranged (record-of .result) (a .count) (a .tasks) (record-of .ensures .1) (p .count-high) (omega arith) (rw is at (p .ranged))))
+    (p .count-high, rw is (table-ranged (record-of .result) (a .count) (a .tasks) (record-of .ensures .1) (omega arith) (rw is at (p .ranged))))
 
 fill-tasks-requires : tie.Need-fill-tasks-requires
 fill-tasks-requires c κs =

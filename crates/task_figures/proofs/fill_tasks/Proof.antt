@@ -1,10 +1,12 @@
 -- The records filled so far.
 use mathlib.Core.Path.{_≡_, refl}
-use Prim.Native.Nat.{_-_, _≤_}
-use native.Mathlib.Numerals.{add-one}
+use Prim.Native.Nat.{_-_, _≤_, _<_}
 use native.Mathlib.Omega.{arith}
 use borrow.Author.Needs.{needs}
+use lib.ListN.{length}
+use Rattle.model.specs.Lists.{numbered}
 use Rattle.task_figures.specs.Figures.{filled, filledTo}
+use Rattle.task_figures.proofs.Filled.{filled-read, filled-next}
 use Rattle.task_figures.proofs.fill_tasks.Statement.{statement}
 use Rattle.task_figures.proofs.fill_tasks.Tie as tie
 
@@ -15,7 +17,7 @@ abbrev μ-loop : tie.MeasureT-loop
 μ-loop count bases responses filled₀ i₀ filled i = count - i
 
 loop-holds : tie.Need-loop-holds Inv-loop μ-loop
-unfolding filledTo
+unfolding filledTo numbered
 loop-holds c = (omega arith, refl)
 
 mul-x : tie.Need-mul-x Inv-loop μ-loop
@@ -52,10 +54,13 @@ loop-less : tie.Need-loop-less Inv-loop μ-loop
 loop-less c = omega arith
 
 loop-again : tie.Need-loop-again Inv-loop μ-loop
-unfolding filledTo filled
+unfolding filled
 loop-again c =
     let loop = c .before .before .before .loop in
-    (omega arith, rw (add-one (loop .i), ← loop .inv .1, c .fill-task .ensures))
+    let a = c .before .before .before .before .before .before .args in
+    let long : length (a .tasks) ≡ 32 = search needs in
+    let less : loop .i < length (a .tasks) = omega arith in
+    (omega arith, rw (c .fill-task .ensures, loop .inv .1, filled-read (a .figures) (a .tasks) (loop .i) less) (filled-next (a .figures) (a .tasks) (loop .i) less))
 
 returns : tie.Need-returns Inv-loop μ-loop
 returns c =

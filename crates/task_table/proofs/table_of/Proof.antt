@@ -1,11 +1,14 @@
 -- The table of the records so far.
 use mathlib.Core.Path.{_≡_, refl}
 use Prim.Native.Nat.{_-_, _≤_}
-use native.Mathlib.Numerals.{add-one}
 use native.Mathlib.Omega.{arith}
 use borrow.Author.Needs.{needs}
-use Rattle.planning.specs.Base.{largestCost}
-use Rattle.task_table.specs.Table.{addedTo, tableTo}
+use lib.ListN.{length}
+use Rattle.model.specs.Lists.{larger, all}
+use Rattle.model.specs.DelayBound.{maximaOf}
+use Rattle.planning.specs.Base.{largestCost, stageMaxima}
+use Rattle.task_table.specs.Table.{tableTo}
+use Rattle.task_table.proofs.Tables.{table-next}
 use Rattle.task_table.proofs.table_of.Statement.{statement}
 use Rattle.task_table.proofs.table_of.Tie as tie
 
@@ -24,7 +27,7 @@ before-last-requires : tie.Need-before-last-requires Inv-loop μ-loop
 before-last-requires c κs = search needs
 
 loop-holds : tie.Need-loop-holds Inv-loop μ-loop
-unfolding tableTo
+unfolding tableTo stageMaxima maximaOf larger all
 loop-holds c = (omega arith, refl, c .before-last .ensures .0, c .before-last .ensures .1)
 
 mul-x : tie.Need-mul-x Inv-loop μ-loop
@@ -67,18 +70,15 @@ loop-less : tie.Need-loop-less Inv-loop μ-loop
 loop-less c = omega arith
 
 loop-again : tie.Need-loop-again Inv-loop μ-loop
-unfolding tableTo addedTo largestCost
+unfolding largestCost
 loop-again c =
-    let loop = c .before .before .before .before .before .before .loop in (
+    let here = c .before .before .before .before .before .before in
+    let loop = here .loop in
+    let start = here .before .before in
+    let long : length (start .args .t1) ≡ 32 = search needs in (
       omega arith,
-      rw (
-        add-one (loop .i),
-        ← loop .inv .1,
-        c .in-range .ensures,
-        c .before .larger-costs .ensures,
-        c .before .before .largest-cost .ensures,
-        loop .inv .2,
-      ),
+      rw (c .in-range .ensures, c .before .larger-costs .ensures, c .before .before .largest-cost .ensures, loop .inv .2)
+          (rw (← loop .inv .1) at (table-next (start .args .stations) (start .args .t1) (loop .i) (omega arith) (omega arith))),
       loop .inv .2,
       loop .inv .3,
     )
