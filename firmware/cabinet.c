@@ -1,0 +1,187 @@
+/* cabinet.c: an example of a cabinet's firmware, to start from. Orders come as lines on standard input (counter.h), answers and the motors' work go as lines
+ * to standard output (telling.h), the image is kept in a file (image_store.h), and a tick passes every 0.1 s. README.md says how to run it and what a power
+ * cut does.
+ *
+ *     cabinet [--image FILE] [--stations N] [--tick MILLISECONDS]
+ *
+ * One rule holds everywhere: a call changes the image in memory, the image is stored, and only then is anybody told. */
+#define _POSIX_C_SOURCE 200809L
+#include "counter.h"
+#include "dispatcher.h"
+#include "image_store.h"
+#include "image_view.h"
+#include "stop.h"
+#include "telling.h"
+
+#include <errno.h>
+#include <poll.h>
+#include <stdlib.h>
+#include <string.h>
+#include <time.h>
+#include <unistd.h>
+
+struct cabinet {
+    const char *path;
+    long long stations; /* of the command line; -1 if it has none */
+    long long tick;     /* nanoseconds; 0: ticks pass in `wait` alone, and there at once */
+    struct image_store store;
+    uint8_t image[DISPATCHER_IMAGE_SIZE];
+    uint8_t reply[DISPATCHER_REPLY_SIZE];
+};
+
+static void store(const struct cabinet *cabinet)
+{
+    if (image_store_save(&cabinet->store, cabinet->image, sizeof cabinet->image) < 0)
+        stop(STORE_FAILED, "cannot store the image %s: %s. What was not stored was not told.", cabinet->path, strerror(errno));
+}
+
+/* Ends the program if the number says that the image is none. The file is left as it is: it may still tell what happened, and an image made anew in its
+ * place would give the same tickets a second time. */
+static void refuse_damage(const struct cabinet *cabinet, uint32_t number)
+{
+    if (number >= DISPATCHER_BAD_REPLY_LENGTH && number <= DISPATCHER_BAD_IMAGE)
+        stop(IMAGE_REFUSED, "the image %s is refused by number %u: %s. The file is left as it is. Look at it with inspect, see what lies in the stations, and "
+             "move the file away before a new cabinet is opened.", cabinet->path, (unsigned)number, in_words(number));
+}
+
+static void first_start(struct cabinet *cabinet)
+{
+    if (cabinet->stations < 0)
+        stop(IMAGE_REFUSED, "there is no image %s. If this is a new cabinet, give the number of its stations with --stations.", cabinet->path);
+    uint32_t number = dispatcher_open(cabinet->image, sizeof cabinet->image, (uint32_t)cabinet->stations, cabinet->reply, sizeof cabinet->reply);
+    if (number != DISPATCHER_DONE)
+        stop(BAD_USAGE, "the cabinet is not opened, number %u: %s.", (unsigned)number, in_words(number));
+    store(cabinet);
+    tell_image("opened", cabinet->image);
+}
+
+static void start(struct cabinet *cabinet)
+{
+    uint8_t bytes[DISPATCHER_IMAGE_SIZE + 1]; /* one more, so that a longer file is seen to be longer */
+    size_t length;
+    if (image_store_load(&cabinet->store, bytes, sizeof bytes, &length) < 0) {
+        if (errno != ENOENT)
+            stop(STORE_FAILED, "cannot read the image %s: %s.", cabinet->path, strerror(errno));
+        first_start(cabinet);
+        return;
+    }
+    /* A quote asks first whether the image is sound. With no order block it goes no further, and gets 5 if it is. */
+    refuse_damage(cabinet, dispatcher_quote(bytes, length, NULL, 0, cabinet->reply, sizeof cabinet->reply));
+    if (cabinet->stations >= 0 && cabinet->stations != view_image(bytes).stations)
+        stop(IMAGE_REFUSED, "the image %s is of %u stations, and not of %lld.", cabinet->path, view_image(bytes).stations, cabinet->stations);
+    memcpy(cabinet->image, bytes, sizeof cabinet->image);
+    /* If the run before ended between rename and fsync, this image is not yet safe. So it is stored again before anything is told of it. */
+    store(cabinet);
+    tell_image("resumed", cabinet->image);
+}
+
+static void advance(struct cabinet *cabinet)
+{
+    uint8_t before[DISPATCHER_IMAGE_SIZE];
+    memcpy(before, cabinet->image, sizeof before);
+    uint32_t number = dispatcher_advance(cabinet->image, sizeof cabinet->image, cabinet->reply, sizeof cabinet->reply);
+    refuse_damage(cabinet, number);
+    if (number == DISPATCHER_CLOCK_ENDED)
+        stop(CLOCK_ENDED, "no tick passes, number %u: %s. No order is live. Move the image %s away and open a new cabinet.", (unsigned)number, in_words(number),
+             cabinet->path);
+    store(cabinet);
+    tell_advance(before, cabinet->image, cabinet->reply);
+}
+
+static void answer(struct cabinet *cabinet, const struct request *request)
+{
+    uint64_t due = (uint64_t)view_image(cabinet->image).clock + request->ticks;
+    uint32_t number;
+    if (request->kind == OFFER) {
+        number = dispatcher_offer(cabinet->image, sizeof cabinet->image, request->order, sizeof request->order, cabinet->reply, sizeof cabinet->reply);
+        if (number == DISPATCHER_DONE)
+            store(cabinet);
+    } else {
+        number = dispatcher_quote(cabinet->image, sizeof cabinet->image, request->order, sizeof request->order, cabinet->reply, sizeof cabinet->reply);
+    }
+    refuse_damage(cabinet, number);
+    tell_answer(cabinet->reply, due);
+}
+
+/* One request of the counter, if there is one. After `wait` the next is to be taken when `*waits` ticks have passed. */
+static int serve(struct cabinet *cabinet, struct counter *counter, uint32_t *waits)
+{
+    struct request request;
+    if (!counter_take(counter, &request))
+        return 0;
+    switch (request.kind) {
+    case QUOTE:
+    case OFFER: answer(cabinet, &request); break;
+    case STATUS: tell_image("status", cabinet->image); break;
+    case WAIT: *waits = request.ticks; break;
+    case NOT_UNDERSTOOD: tell_not_understood(request.wrong); break;
+    }
+    return 1;
+}
+
+static long long now(void)
+{
+    struct timespec time;
+    if (clock_gettime(CLOCK_MONOTONIC, &time) < 0)
+        abort(); /* every POSIX system that this is for has the clock */
+    return time.tv_sec * 1000000000LL + time.tv_nsec;
+}
+
+/* Ticks are at fixed times from the start, however long the work of a tick takes, so no delay adds up. Ticks that come late, because the disk was slow, are
+ * made up one after the other, with a request of the counter in between. The time before the start is not made up: nothing moved while the power was off. */
+static void run(struct cabinet *cabinet)
+{
+    struct counter counter = {.used = 0};
+    uint32_t waits = 0;
+    for (long long next = now() + cabinet->tick;;) {
+        long long left = cabinet->tick == 0 ? 0 : next - now();
+        if (cabinet->tick == 0 ? waits > 0 : left <= 0) {
+            advance(cabinet);
+            next += cabinet->tick;
+            waits -= waits > 0;
+            left = 0;
+        }
+        if (waits == 0 && serve(cabinet, &counter, &waits))
+            continue;
+        if (waits == 0 && counter.ended)
+            return;
+        /* Rounded up, so that the tick is due when poll returns. With no tick to come poll waits for the counter alone. */
+        int milliseconds = cabinet->tick == 0 && waits == 0 ? -1 : (int)((left + 999999) / 1000000);
+        struct pollfd input = {.fd = waits == 0 ? STDIN_FILENO : -1, .events = POLLIN};
+        int ready = poll(&input, 1, milliseconds);
+        if ((ready < 0 && errno != EINTR) || (ready > 0 && counter_read(&counter) < 0))
+            stop(LINES_FAILED, "standard input: %s. The image is stored.", strerror(errno));
+    }
+}
+
+/* The decimal behind an option. */
+static unsigned long decimal(const char *text, unsigned long most)
+{
+    char *end;
+    errno = 0;
+    unsigned long value = strtoul(text, &end, 10);
+    if (text[0] < '0' || text[0] > '9' || *end != '\0' || errno != 0 || value > most)
+        stop(BAD_USAGE, "'%s' is not a decimal of at most %lu.", text, most);
+    return value;
+}
+
+int main(int count, char **words)
+{
+    struct cabinet cabinet = {.path = "cabinet.image", .stations = -1, .tick = 100000000};
+    for (int k = 1; k < count; k += 2) {
+        const char *value = k + 1 < count ? words[k + 1] : "";
+        if (strcmp(words[k], "--image") == 0 && value[0] != '\0')
+            cabinet.path = value;
+        else if (strcmp(words[k], "--stations") == 0)
+            cabinet.stations = (long long)decimal(value, UINT32_MAX);
+        else if (strcmp(words[k], "--tick") == 0)
+            cabinet.tick = (long long)decimal(value, 60000) * 1000000;
+        else
+            stop(BAD_USAGE, "usage: cabinet [--image FILE] [--stations N] [--tick MILLISECONDS]");
+    }
+    if (image_store_open(&cabinet.store, cabinet.path) < 0)
+        stop(STORE_FAILED, "cannot open the directory of %s: %s.", cabinet.path, strerror(errno));
+    start(&cabinet);
+    run(&cabinet);
+    return ENDED;
+}

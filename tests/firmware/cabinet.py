@@ -1,0 +1,120 @@
+"""What the tests of the firmware example share: running the program, what an image says, and what the program has to tell of it, by document 01."""
+import os
+import shutil
+import struct
+import subprocess
+
+SIZE = 2128
+
+
+class Image:
+    """An image by the table of document 01."""
+
+    def __init__(self, data):
+        assert len(data) == SIZE and data[:5] == b"WMC\x01\x00", "not an image"
+        self.data, self.n, self.live = data, data[5], data[6]
+        self.clock, self.next = struct.unpack_from("<II", data, 8)
+        self.serving = [struct.unpack_from("<IH", data, 16 + 8 * j) for j in range(self.n)]
+        self.orders = []
+        for k in range(self.live):
+            at = 80 + 64 * k
+            ticket, accepted, due, _ = struct.unpack_from("<IIII", data, at)
+            self.orders.append({"ticket": ticket, "accepted": accepted, "due": due, "station": data[at + 16], "ranks": data[at + 20:at + 28],
+                                "costs": struct.unpack_from("<8H", data, at + 28)})
+
+    def tickets(self):
+        return [order["ticket"] for order in self.orders]
+
+    def lines(self, how):
+        """What is told of the image as a whole."""
+        lines = [f"{how}: stations {self.n} clock {self.clock} next {self.next} live {self.live}"]
+        lines += [f"station {j + 1} ticket {ticket} left {left}" for j, (ticket, left) in enumerate(self.serving) if ticket]
+        return lines + [f"order {o['ticket']} due {o['due']} station {o['station']}" for o in self.orders]
+
+
+def advance_lines(before, after):
+    """What is told of an advance: the starts by the rule of document 01's tick, from the image before it alone, and who was live and is so no longer."""
+    lines = []
+    for j, (ticket, _) in enumerate(before.serving):
+        waiting = [(o["ranks"][j], o["ticket"]) for o in before.orders if o["station"] == j + 1]
+        if ticket == 0 and waiting:
+            lines.append(f"tick {before.clock} station {j + 1} starts ticket {min(waiting)[1]}")
+    out = [ticket for ticket in before.tickets() if ticket not in after.tickets()]
+    return lines + [f"tick {after.clock} ticket {ticket} is out" for ticket in out]
+
+
+def block(words):
+    """The order block of `DUE_IN RANK:COST ..`."""
+    pairs = [tuple(map(int, word.split(":"))) for word in words[1:]]
+    pairs += [(0, 0)] * (8 - len(pairs))
+    return struct.pack("<I8B8H", int(words[0]), *(rank for rank, _ in pairs), *(cost for _, cost in pairs))
+
+
+class Runner:
+    """Runs the program in a folder of its own."""
+
+    def __init__(self, program, shim, folder):
+        self.program, self.shim, self.folder = os.path.abspath(program), os.path.abspath(shim), os.path.abspath(folder)
+        self.image = os.path.join(self.folder, "cabinet.image")
+        self.runs = 0
+        self.clear()
+
+    def clear(self):
+        shutil.rmtree(self.folder, ignore_errors=True)
+        os.makedirs(self.folder)
+
+    def command(self, *options):
+        return [self.program, "--image", self.image, *map(str, options)]
+
+    def environment(self, **settings):
+        """The shim is loaded if it has something to do."""
+        extra = {"CUT_" + name.upper(): str(value) for name, value in settings.items()}
+        return {"LD_PRELOAD": self.shim, **extra} if extra else {}
+
+    def run(self, text, *options, **settings):
+        """Exit status (below zero: the signal), the bytes of standard output, the text of standard error."""
+        self.runs += 1
+        ended = subprocess.run(self.command(*options), input=text.encode() if isinstance(text, str) else text, env=self.environment(**settings),
+                               capture_output=True, timeout=30)
+        return ended.returncode, ended.stdout, ended.stderr.decode()
+
+    def stored(self):
+        """The bytes of the image's file, None if there is none."""
+        try:
+            with open(self.image, "rb") as file:
+                return file.read()
+        except FileNotFoundError:
+            return None
+
+    def store(self, data):
+        with open(self.image, "wb") as file:
+            file.write(data)
+
+
+def whole_lines(output):
+    """The lines that were told. One without its line feed was not."""
+    return output.decode().split("\n")[:-1]
+
+
+def asked_for(line):
+    """The least clock and next ticket of an image that has what the line tells."""
+    words = line.split(" ")
+    if words[0] == "accepted":
+        return 0, int(words[2]) + 1
+    if words[0] == "tick":
+        return int(words[1]) + (words[2] == "station"), 0
+    if words[0] in ("opened:", "resumed:", "status:"):
+        return int(words[4]), int(words[6])
+    return 0, 0
+
+
+def least(lines):
+    """The same for all of the lines."""
+    clocks, tickets = zip((0, 0), *map(asked_for, lines))
+    return max(clocks), max(tickets)
+
+
+def check(holds, *what):
+    if not holds:
+        print(*what)
+        raise SystemExit(1)

@@ -1,0 +1,166 @@
+#!/usr/bin/env python3
+"""refusals.py PROGRAM SHIM LISTS FOLDER: what the program refuses, by number and in words.
+
+LISTS holds damaged and sound images that `gen images` of the second simulator wrote, with the simulator's number for each. The program has to resume a sound
+one and tell what it says; another it has to refuse by that number, with exit status 2 and without touching a file. Then every number that an order or a tick
+can get, from images at the ends of the ranges, and lines that are no requests."""
+import os
+import re
+import struct
+import sys
+
+from cabinet import SIZE, Image, Runner, check, whole_lines
+
+REFUSED = re.compile(r"cabinet: the image \S+ is refused by number (\d+): .+ The file is left as it is\. .+\n")
+
+
+def empty_image(n, clock, ticket):
+    return struct.pack("<3sHBBBII", b"WMC", 1, n, 0, 0, clock, ticket).ljust(SIZE, b"\0")
+
+
+def simulated(folder):
+    """The images of `gen images`, each with the number that the quote after it got: 2, 3, 4, or 0 for a sound one."""
+    for name in sorted(os.listdir(folder)):
+        if name.startswith("images-") and name.endswith(".txt"):
+            lines = open(os.path.join(folder, name)).read().splitlines()
+            for k, line in enumerate(lines):
+                if line.startswith("image "):
+                    number = int(lines[k + 1].split(" -> ")[1].split(" ")[0])
+                    yield bytes.fromhex(line.split(" ")[1].replace("-", "")), number if number in (2, 3, 4) else 0
+
+
+def own(sound):
+    """Images damaged here: lengths, every bit of mark and version, and bytes that document 01 rules out."""
+    for length in (0, 1, 16, SIZE - 1):
+        yield sound[:length], 2
+    for more in (1, SIZE):
+        yield sound + bytes(more), 2
+    for bit in range(40):
+        yield sound[:bit // 8] + bytes([sound[bit // 8] ^ 1 << bit % 8]) + sound[bit // 8 + 1:], 3
+    yield bytes(SIZE), 3
+    for at, value in ((5, 0), (5, 9), (5, 255), (6, 33), (7, 1), (11, 255), (22, 1), (SIZE - 1, 1)):
+        yield sound[:at] + bytes([value]) + sound[at + 1:], 4
+
+
+def seen(runner):
+    """Every file of the folder: its bytes, its number, and when it was changed."""
+    return {name: (open(path, "rb").read(), os.stat(path).st_ino, os.stat(path).st_mtime_ns)
+            for name, path in ((name, os.path.join(runner.folder, name)) for name in os.listdir(runner.folder))}
+
+
+def images(runner, folder):
+    counts = {0: 0, 2: 0, 3: 0, 4: 0}
+    for data, number in [*simulated(folder), *own(empty_image(2, 5, 3))]:
+        runner.clear()
+        runner.store(data)
+        before = seen(runner)
+        # With --stations, too: a damaged image is never taken for a first start.
+        options = ("--stations", data[5] if number == 0 else 2) if sum(counts.values()) % 2 else ()
+        status, output, errors = runner.run("status\noffer 0 0:1 0:1\n" if number else "status\n", "--tick", 0, *options)
+        counts[number] += 1
+        if number == 0:
+            image = Image(data)
+            check((status, errors) == (0, "") and whole_lines(output) == image.lines("resumed") + image.lines("status"), "a sound image:", status, errors)
+            check(runner.stored() == data, "a sound image that nothing was asked of is changed")
+        else:
+            told = REFUSED.fullmatch(errors)
+            check(status == 2 and output == b"" and told and int(told[1]) == number, "an image of number", number, "ends with", status, output, errors)
+            check(seen(runner) == before, "an image of number", number, "is touched")
+    print("images by number:", ", ".join(f"{number}: {count}" for number, count in counts.items()))
+    check(all(counts[number] >= 20 for number in (0, 3, 4)) and counts[2] >= 6, "too few")
+
+
+def answers(runner):
+    """Images made by hand, requests, and the numbers that document 01 gives them: 0 where the order is accepted."""
+    last = 4000000000
+    full = "offer 60000 0:1\n" * 32
+    words = {}
+    for n, clock, ticket, text, numbers in (
+            (1, 0, 1, full + "offer 60000 0:1\nwait 1\noffer 60000 0:1\nquote 60000 0:1\n", [0] * 32 + [10, 0, 10]),
+            (2, 0, 1, "offer 20 0:2 0:3\nquote 6 5:1 5:2\noffer 6 5:1 5:2\noffer 7 5:1 5:2\n", [0, 11, 11, 0]),
+            (2, 0, 1, "offer 6 0:2 0:3\nquote 100 5:1 5:2\noffer 100 5:1 5:2\n", [0, 12, 12]),
+            (2, 0, 1, "offer 9 0:1\noffer 9\noffer 9 0:1 0:1 0:1\noffer 9 0:1 0:1 1:0\noffer 9 0:6001 0:1\nquote 9 0:0 0:1\n", [6, 6, 6, 6, 6, 6]),
+            (1, 0, 1, "offer 60001 0:1\noffer 4294967295 0:1\noffer 60000 0:1\noffer 0 0:1\n", [7, 7, 0, 0]),
+            (1, last - 5, 1, "offer 6 0:1\nquote 6 0:1\noffer 0 0:1\noffer 5 0:1\n", [8, 8, 8, 0]),
+            (1, 7, 0, "offer 6 0:1\nquote 6 0:1\n", [9, 9]),
+            (1, 7, 2**32 - 1, "offer 6 0:1\noffer 6 0:1\n", [0, 9])):
+        runner.clear()
+        runner.store(empty_image(n, clock, ticket))
+        status, output, errors = runner.run(text, "--tick", 0)
+        lines = [line for line in whole_lines(output)[1:] if not line.startswith("tick")]
+        check((status, errors, len(lines)) == (0, "", len(numbers)), text, "ends with", status, errors, lines)
+        for line, number in zip(lines, numbers):
+            told = re.fullmatch(r"declined (\d+)( margin -\d+)?: (.+)", line)
+            check(line.startswith("accepted") if number == 0 else told and int(told[1]) == number and bool(told[2]) == (number in (11, 12)), text, number, line)
+            if told:
+                words.setdefault(int(told[1]), set()).add(told[3])
+    # "X, due-in 20, at 0: ticket 1, tick 5, margin 15", and Y after it; and due-in 0 stands for 18,000.
+    runner.clear()
+    lines = whole_lines(runner.run("offer 20 0:2 0:3\noffer 7 5:1 5:2\nquote 0 0:1 0:1\n", "--stations", 2, "--tick", 0)[1])
+    check(lines[1:] == ["accepted ticket 1 out-by 5 due 20 margin 15", "accepted ticket 2 out-by 7 due 7 margin 0", "declined 12 margin -1: " + max(words[12])],
+          "the counter examples give", lines)
+    runner.clear()
+    check(b"quoted out-by 2 due 18000 margin 17998\n" in runner.run("quote 0 0:1 0:1\n", "--stations", 2, "--tick", 0)[1], "due-in 0")
+
+    runner.clear()
+    runner.store(empty_image(1, last - 2, 1))
+    status, output, errors = runner.run("wait 3\nstatus\n", "--tick", 0)
+    told = re.fullmatch(r"cabinet: no tick passes, number 13: (.+?)\. .+\n", errors)
+    check(status == 5 and told and whole_lines(output) == Image(empty_image(1, last - 2, 1)).lines("resumed"), "the clock's end:", status, output, errors)
+    check(runner.stored() == empty_image(1, last, 1), "the clock's end leaves another image")
+    words[13] = {told[1]}
+    for n in (0, 9, 2**32 - 1):
+        runner.clear()
+        status, output, errors = runner.run("status\n", "--stations", n, "--tick", 0)
+        told = re.fullmatch(r"cabinet: the cabinet is not opened, number 14: (.+)\.\n", errors)
+        check(status == 1 and output == b"" and told and os.listdir(runner.folder) == [], n, "stations:", status, output, errors)
+        words.setdefault(14, set()).add(told[1])
+    check(sorted(words) == list(range(6, 15)) and all(len(texts) == 1 for texts in words.values()) and len(set.union(*words.values())) == 9, words)
+    print("numbers 6 to 14, each in words of its own")
+
+
+def lines_and_options(runner):
+    runner.clear()
+    status, output, errors = runner.run("status\n", "--tick", 0)
+    check(status == 2 and output == b"" and "there is no image" in errors and os.listdir(runner.folder) == [], "no image:", status, output, errors)
+    runner.store(empty_image(2, 5, 3))
+    before = seen(runner)
+    status, output, errors = runner.run("status\n", "--tick", 0, "--stations", 3)
+    check(status == 2 and output == b"" and "is of 2 stations, and not of 3" in errors and seen(runner) == before, "other stations:", status, output, errors)
+    for options in (("--tick",), ("--tick", "x"), ("--tick", "-1"), ("--tick", "60001"), ("--stations", ""), ("--stations", "4294967296"), ("--clock", "1"),
+                    ("1",)):
+        status, output, errors = runner.run("status\n", *options)
+        check(status == 1 and output == b"" and re.fullmatch("cabinet: .+\n", errors) and seen(runner) == before, options, status, output, errors)
+
+    # Each is one line that is no request. Nothing of it is done, and the next line is read as it is.
+    long_line = b"offer 9 " + b"0:1 " * 200
+    wrong = [b"", b"offer", b"offer ", b"offer  9 0:1 0:1", b"offer 9 0:1 0:1 ", b" offer 9 0:1 0:1", b"offer 9 0:1 0", b"offer 9 0:1 0:", b"offer 9 0:1 :1",
+             b"offer -1 0:1 0:1", b"offer 4294967296 0:1 0:1", b"offer 9 256:1 0:1", b"offer 9 0:65536 0:1", b"offer 9 0:1 0:1\r", b"offer 9 0:1 0:1\0",
+             b"offer 9 0:1 0:1\0 0:1", b"offer 9" + b" 0:1" * 9, b"offer 99999999999999999999999999 0:1 0:1", b"wait", b"wait x", b"wait 1 ",
+             b"wait 4294967296", b"status ", b"Status", b"offer 9 0:1 0:1" + b" " * 300, long_line, b"x" * 255, b"x" * 256, b"x" * 257, b"x" * 511, b"x" * 512,
+             b"x" * 513]
+    for text in wrong:
+        runner.store(empty_image(2, 5, 3))
+        status, output, errors = runner.run(text + b"\nstatus\n", "--tick", 0)
+        lines = whole_lines(output)
+        check((status, errors, len(lines)) == (0, "", 3) and lines[1].startswith("not understood: ") and
+              lines[2] == Image(empty_image(2, 5, 3)).lines("status")[0], text, status, errors, lines)
+    for text in (b"offer 9 0:1 0:1", b"status", b"x" * 300):
+        status, output, errors = runner.run(text, "--tick", 0)
+        check(status == 0 and whole_lines(output)[1:] == ["not understood: the last line has no line feed"], text, status, output, errors)
+        check(runner.stored() == empty_image(2, 5, 3), text, "without a line feed changes the image")
+    # A line of 255 bytes is one: zeros before a number change nothing.
+    longest = b"offer 9 0:1 0:" + b"1".rjust(255 - len(b"offer 9 0:1 0:"), b"0")
+    check(whole_lines(runner.run(longest + b"\n", "--tick", 0)[1])[1:] == ["accepted ticket 3 out-by 7 due 14 margin 7"], "a line of 255 bytes")
+    print(f"{len(wrong) + 3} lines that are no requests, and the options")
+
+
+def main(program, shim, lists, folder):
+    runner = Runner(program, shim, folder)
+    images(runner, lists)
+    answers(runner)
+    lines_and_options(runner)
+    print(f"the program was started {runner.runs} times")
+
+
+main(*sys.argv[1:])
