@@ -180,7 +180,7 @@ int main(int count, char **words)
             stop(BAD_USAGE, "usage: cabinet [--image FILE] [--stations N] [--tick MILLISECONDS]");
     }
     if (image_store_open(&cabinet.store, cabinet.path) < 0)
-        stop(STORE_FAILED, "cannot open the directory of %s: %s.", cabinet.path, strerror(errno));
+        stop(STORE_FAILED, "no image can be kept in %s: %s.", cabinet.path, strerror(errno));
     start(&cabinet);
     run(&cabinet);
     return ENDED;

@@ -13,6 +13,10 @@ int image_store_open(struct image_store *store, const char *path)
     char folder[4096];
     const char *slash = strrchr(path, '/');
     store->name = slash ? slash + 1 : path;
+    if (store->name[0] == '\0') {
+        errno = EISDIR;
+        return -1;
+    }
     /* "cabinet.image" stands in ".", and "/cabinet.image" in "/". */
     int length = slash ? snprintf(folder, sizeof folder, "%.*s", slash == path ? 1 : (int)(slash - path), path) : snprintf(folder, sizeof folder, ".");
     int named = snprintf(store->next, sizeof store->next, "%s.next", store->name);

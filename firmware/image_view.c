@@ -1,4 +1,5 @@
-/* image_view.c: see image_view.h. */
+/* image_view.c: see image_view.h. The table has N at 5, the live count at 6, the clock at 8 and the next ticket at 12; from 16 on eight station entries of 8
+ * bytes; and from 80 on 32 records of 64 bytes, the live ones first. */
 #include "image_view.h"
 #include "bytes.h"
 

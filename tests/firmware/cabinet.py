@@ -11,7 +11,7 @@ class Image:
     """An image by the table of document 01."""
 
     def __init__(self, data):
-        assert len(data) == SIZE and data[:5] == b"WMC\x01\x00", "not an image"
+        check(len(data) == SIZE and data[:5] == b"WMC\x01\x00", "stored as an image:", len(data), "bytes that begin with", data[:5])
         self.data, self.n, self.live = data, data[5], data[6]
         self.clock, self.next = struct.unpack_from("<II", data, 8)
         self.serving = [struct.unpack_from("<IH", data, 16 + 8 * j) for j in range(self.n)]

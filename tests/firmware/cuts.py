@@ -122,6 +122,7 @@ class Plain:
                 data = disk.contents[disk.names[disk.name]]
                 check(len(data) == SIZE, "an image of", len(data), "bytes is stored")
                 self.images.append(Image(data))
+        check(bool(self.images), "no image gets its name by a rename")
         self.told = whole_lines(output)
         check("\n".join(self.told) + "\n" == disk.told, "told other lines than the trace has")
         self.items, self.stores, self.replies = [], [], []

@@ -55,7 +55,12 @@ def pacing(folder, program, shim):
             stopped.process.send_signal(signal.SIGCONT)
         time.sleep(max(0, plain.began + moment - time.monotonic()))
         for name, live in (("plain", plain), ("slow", slow), ("stopped", stopped)):
-            passed, clock = live.clock()
+            # A machine that is busy may be late for a moment. What has drifted stays off.
+            for _ in range(8):
+                passed, clock = live.clock()
+                if abs(clock - passed / 0.1) <= 1:
+                    break
+                time.sleep(0.2)
             print(f"{name}: {clock} ticks in {passed:.2f} s")
             check(abs(clock - passed / 0.1) <= 1, "more than one tick from the time of day")
     for live in (plain, slow, stopped):

@@ -7,6 +7,7 @@ can get, from images at the ends of the ranges, and lines that are no requests."
 import os
 import re
 import struct
+import subprocess
 import sys
 
 from cabinet import SIZE, Image, Runner, check, whole_lines
@@ -131,6 +132,15 @@ def lines_and_options(runner):
                     ("1",)):
         status, output, errors = runner.run("status\n", *options)
         check(status == 1 and output == b"" and re.fullmatch("cabinet: .+\n", errors) and seen(runner) == before, options, status, output, errors)
+
+    # Without --image it is cabinet.image of the folder that the program is run in; and a path without a file's name is none.
+    runner.store(empty_image(2, 5, 3))
+    for words in (), ("--image", "cabinet.image"), ("--image", "./cabinet.image"):
+        ended = subprocess.run([runner.program, *words, "--tick", "0"], cwd=runner.folder, input=b"", capture_output=True)
+        check((ended.returncode, whole_lines(ended.stdout)) == (0, Image(empty_image(2, 5, 3)).lines("resumed")), words, ended)
+    for path in ("nowhere/cabinet.image", "./", "."):
+        ended = subprocess.run([runner.program, "--image", path, "--stations", "2", "--tick", "0"], cwd=runner.folder, input=b"", capture_output=True)
+        check((ended.returncode, ended.stdout, os.listdir(runner.folder)) == (3, b"", ["cabinet.image"]), path, ended)
 
     # Each is one line that is no request. Nothing of it is done, and the next line is read as it is.
     long_line = b"offer 9 " + b"0:1 " * 200
