@@ -54,7 +54,8 @@ class Disk:
         self.name = os.path.basename(image)
         self.names, self.doubt = {}, [{}]  # names as they are; every state of them that the disk may have
         self.contents, self.synced = [], []  # of each file ever made: its bytes, and whether the disk has them
-        self.files, self.told = {}, ""  # open files: a number, None for the directory; what was told so far
+        self.files, self.places = {}, {}  # of each open file: which it is, None for the directory; and where the next byte goes
+        self.told = ""
 
     def call(self, line):
         word, rest = line.split(" ", 1)
@@ -70,16 +71,16 @@ class Disk:
                 self.names = {**self.names, path: len(self.contents) - 1}
                 self.doubt.append(self.names)
             at = self.names[path]
-            self.files[int(file)] = at
+            self.files[int(file)], self.places[int(file)] = at, 0
             if word == "truncate" and self.contents[at] != b"":
                 self.contents[at], self.synced[at] = b"", False
         elif word == "write" and rest.startswith("1 "):
             self.told += bytes.fromhex(rest.split(" ")[1].replace("-", "")).decode()
         elif word == "write":
-            file, data = rest.split(" ")
-            at = self.files[int(file)]
-            self.contents[at] += bytes.fromhex(data.replace("-", ""))
-            self.synced[at] = False
+            file, data = int(rest.split(" ")[0]), bytes.fromhex(rest.split(" ")[1].replace("-", ""))
+            at, place = self.files[file], self.places[file]
+            self.contents[at] = self.contents[at][:place] + data + self.contents[at][place + len(data):]
+            self.places[file], self.synced[at] = place + len(data), False
         elif word == "sync":
             at = self.files[int(rest)]
             if at is None:
@@ -98,12 +99,15 @@ class Disk:
             at = names.get(self.name)
             yield None if at is None else self.contents[at] if self.synced[at] else "?"
 
-    def cut(self, data):
-        """The power is off, and on again: `data` is what the disk has."""
+    def cut(self, data, leftover):
+        """The power is off, and on again: `data` is the image that the disk has, and `leftover` the file that was to take its place."""
         self.__init__(self.name)
-        if data is not None:
-            self.contents, self.synced, self.names = [data], [True], {self.name: 0}
-            self.doubt = [self.names]
+        for name, content in ((self.name, data), (self.name + ".next", leftover)):
+            if content is not None:
+                self.names[name] = len(self.contents)
+                self.contents.append(content)
+                self.synced.append(True)
+        self.doubt = [self.names]
 
 
 class Plain:
@@ -302,10 +306,11 @@ def again_and_again(runner, plain, rng, lists):
                 seen = 0
                 if data is not None:
                     runner.store(data)
-                if rng.randrange(2):
+                leftover = rng.randbytes(rng.randrange(2 * SIZE)) if rng.randrange(2) else None
+                if leftover is not None:
                     with open(runner.image + ".next", "wb") as file:
-                        file.write(rng.randbytes(rng.randrange(3000)))
-                disk.cut(data)
+                        file.write(leftover)
+                disk.cut(data, leftover)
                 at = -1 if data is None else [image.data for image in plain.images].index(data)
                 if at < course.at:
                     # Back by a change that was not told; the request that made it is to be made again.
