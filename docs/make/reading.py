@@ -1,0 +1,786 @@
+#!/usr/bin/env python3
+"""reading.py [ROOT]: writes docs/READING.md, demand 3's statement with every definition that it rests on, to standard output.
+
+1. The definitions are found from the sources: beginning with `Demand3`, every name is followed to its declaration, through the `use` lines of its file and
+   through structs of code, until only names of the toolchain's libraries are left. A name that is none of these ends the program.
+2. They are put in reading order, file by file, and each stands after all that it uses; that is checked.
+3. Above each stands what it renders of document 01, sentences or words of them that `document-01.md` has. A definition without such words ends the program,
+   and so does an entry of the table below that is no definition of demand 3, or that is no part of document 01.
+4. Every quotation in a comment of these definitions has to stand in `document-01.md`; and every sentence there is rendered by a definition, or the table
+   ELSEWHERE says where it is kept.
+5. The lines in which rt says that the crates are proved are taken from target/log, where `rt check claims` leaves them.
+
+What was counted goes to standard error.
+"""
+import re
+import sys
+import textwrap
+from pathlib import Path
+
+ROOT = Path(sys.argv[1] if len(sys.argv) > 1 else ".")
+HERE = Path(__file__).resolve().parent
+CRATE = "model"
+STATEMENT = ("Demand3", "Demand3")
+PROOF = ("demand-3", "crates/claims/proofs/Demand3.antt")
+PROVED_IN = "claims"
+WIDTH = 120
+
+# The sections of document 01, by a letter. A passage is "X: first words", the whole sentence or point that begins so, or "X~ words", words inside one.
+SECTIONS = {
+    "C": "The cabinet and its neighbours",
+    "T": "The course of one tick",
+    "D": "The delay sum",
+    "I": "The image",
+    "Q": 'The questions, first "no" decides',
+    "R": "The run book",
+}
+OWN = "No sentence of document 01: a word that it takes for granted."
+
+# File, title, and in the file's order: title, passages of document 01, definitions.
+FILES = [
+    ("specs/Limits.antt", "The figures", [
+        ("Stations", ["C: A cabinet has N stations"], ["maxStations"]),
+        ("Costs", ["C: An order has, for each station"], ["maxCost"]),
+        ("Due-in", ["C: Its due-in is"], ["maxDueIn", "defaultDueIn"]),
+        ("Live orders", ["C: At most 32 orders"], ["maxLive"]),
+        ("The last tick", ["I~ clock at most 4,000,000,000", "Q: Due tick at most", "Q: Clock below"], ["lastTick"]),
+        ("The last ticket", ["I~ next ticket (4), 0 when none is left"], ["lastTicket"]),
+    ]),
+    ("src/lib.rt", "A station's entry, an order's record, an order block", [
+        ("The entry of a station", ["I: Then eight station entries"], ["Service"]),
+        ("The record of a live order", ["I: Then 32 records", "I: A record holds"], ["Order"]),
+        ("An order as it is offered", ["I: An order block is", "C~ for each station, a cost in ticks (1 to 6,000) and a rank"], ["Block"]),
+    ]),
+    ("specs/State.antt", "The state", [
+        ("What an image says", ["I~ then N, live count, and a zero byte; clock (4 bytes); next ticket (4), 0 when none is left",
+                                "I~ Then eight station entries", "I~ Then 32 records of 64 bytes, live ones first in ticket order"], ["State"]),
+        ("Idle", ["I~ each station idle (0, 0)"], ["idle"]),
+        ("A fresh cabinet", ["Q~ open gives zeros and a fresh image (clock 0, next ticket 1)", "C: Tickets run from 1"], ["fresh"]),
+    ]),
+    ("specs/Lists.antt", "Words about lists and tests", [
+        ("Ranges and zero", ["C~ N stations, 1 to 8", "I~ zero bytes and unused records zero"], ["within", "isZero"]),
+        ("The entry of a station, and a part of a list", ["C~ for each station, a cost in ticks (1 to 6,000) and a rank", "I~ Bytes 0 to 2"], ["at", "part"]),
+        ("Added up, the largest, the larger of two", ["D~ the largest station cost of each member, added up", "D~ the largest cost any member has there"],
+         ["total", "largest", "larger"]),
+        ("Lists one after the other", OWN, ["concat"]),
+        ("Tests over a list", OWN, ["all", "any", "has", "same"]),
+        ("The entries that pass a test", OWN, ["only"]),
+        ("Station by station", ["C~ for each station"], ["numbered", "allStations"]),
+        ("So many in a row", OWN, ["upward"]),
+    ]),
+    ("specs/Tick.antt", "The course of one tick", [
+        ("What it sees of a live order", ["C: An order has, for each station"], ["View"]),
+        ("Who goes before whom", ["T: Each idle station", "C~ a rank (0 to 255, the smaller goes first)"], ["precedes"]),
+        ("Who goes first at a station", ["T~ the one with the smallest rank there"], ["better", "first"]),
+        ("Step 1, station by station", ["T: Each idle station", "R~ a start sets the ticks to go to the cost there"], ["entryOf", "startAt", "startEach"]),
+        ("Step 2, at a station", ["T~ each order in service has one tick less to go"], ["oneLess"]),
+        ("Step 3, of an order and of a station", ["T: An order with nothing to go", "C~ visited 1, 2, .. N by every order"], ["stationAfter", "vacate"]),
+        ("The ticket out", ["Q~ advance gives the ticket out or 0, the new clock, and 0"], ["ticketOut"]),
+        ("A record, as the tick sees it, and at another station", ["T~ waits at the next"], ["view", "moveTo"]),
+        ("Step 1 on a state", ["T: Each idle station"], ["starts"]),
+        ("Step 2 on a state", ["T: The clock goes up by one"], ["tick"]),
+        ("Step 3 on a state", ["T: An order with nothing to go"], ["leave"]),
+        ("The three steps in order", ["T: Advance does this", "Q~ advance gives the ticket out or 0"], ["advance", "advanceOut"]),
+    ]),
+    ("specs/DelayBound.antt", "The delay sum", [
+        ("The members' largest costs, added up", ["D: Delay sum of T"], ["sumOf"]),
+        ("The largest cost at each station", ["D~ the largest cost any member has there"], ["maximaOf"]),
+        ("The delay sum", ["D~ plus, for each station before N, the largest cost any member has there", "D: With N = 1"], ["delayBound"]),
+        ("On time", ["D: T is on time"], ["boundTick", "onTime"]),
+        ("Margin", ["D: Margin is"], ["margin"]),
+    ]),
+    ("specs/Bytes.antt", "Numbers as bytes", [
+        ("Reading a number", ["C: Numbers are decimal"], ["byte", "half", "word"]),
+        ("Reading eight numbers", ["I~ eight ranks (1 each); eight costs (2 each)"], ["eightBytes", "eightHalves"]),
+        ("Writing a number", ["C: Numbers are decimal"], ["oneByte", "twoBytes", "fourBytes"]),
+        ("Writing a signed number", ["Q~ margin (signed), 4 bytes each"], ["bits32"]),
+    ]),
+    ("specs/Layout.antt", "The places of the fields", [
+        ("The header of the image", ["I: 2,128 bytes", "I: Bytes 0 to 2"],
+         ["imageSize", "mark", "version", "versionAt", "stationCountAt", "liveCountAt", "headerZeroAt", "clockAt", "nextAt"]),
+        ("A station's entry", ["I: Then eight station entries"], ["servicesAt", "serviceSize", "servedAt", "leftAt", "serviceZeroAt"]),
+        ("A record", ["I: Then 32 records"], ["recordsAt", "recordSize", "ticketAt", "acceptedAt", "dueAt", "sumAt", "stationAt", "stationZeroAt", "ranksAt",
+                                              "costsAt", "maximaAt", "recordZeroAt"]),
+        ("The bytes of one entry, of one record", ["I~ Then eight station entries of 8 bytes", "I~ Then 32 records of 64 bytes"],
+         ["servicePart", "recordPart"]),
+        ("An order block", ["I: An order block is"], ["blockSize", "blockDueInAt", "blockRanksAt", "blockCostsAt"]),
+        ("The reply", ["Q: The reply holds"], ["replySize", "replyTicketAt", "replyTickAt"]),
+    ]),
+    ("specs/Image.antt", "The image", [
+        ("Mark and version", ["Q: Mark and version", "I~ Bytes 0 to 2 are the mark `WMC`; 3 to 4 the version, 1"], ["marked"]),
+        ("The live count", ["I~ then N, live count"], ["liveCount"]),
+        ("A station's entry and its bytes", ["I: Then eight station entries"], ["serviceOf", "serviceBytes"]),
+        ("A record and its bytes", ["I~ ticket, acceptance tick, due tick, sum of the company's largest costs (4 each); station (1); zero (3); eight ranks (1"
+                                    " each); eight costs (2 each); the company's largest cost at each station (2 each); zero (4)"], ["orderOf", "orderBytes"]),
+        ("All entries, and so many records", ["I~ Then eight station entries", "I~ Then 32 records of 64 bytes, live ones first in ticket order"],
+         ["servicesOf", "ordersOf"]),
+        ("What an image says", ["I: Bytes 0 to 2", "I~ live ones first in ticket order, the rest all zero"], ["decode"]),
+        ("The image that says it", ["I: Bytes 0 to 2", "I~ live ones first in ticket order, the rest all zero"], ["encode"]),
+    ]),
+    ("specs/Soundness.antt", "Soundness", [
+        ("Number of stations", ["I: Sound means"], ["stationCountInRange"]),
+        ("Live count", ["I~ live at most 32"], ["liveCountInRange"]),
+        ("Clock", ["I~ clock at most 4,000,000,000"], ["clockInRange"]),
+        ("Zero bytes", ["I~ zero bytes and unused records zero"], ["zeroBytes", "zeroBytesZero"]),
+        ("Unused records", ["I~ zero bytes and unused records zero"], ["unusedRecordsZero"]),
+        ("Tickets", ["I~ live tickets at least 1, rising, and below the next ticket where that is not 0"], ["rising", "ticketsInOrder"]),
+        ("Acceptance", ["I~ acceptance at most the clock"], ["acceptedByNow"]),
+        ("Due tick", ["I~ due tick 1 to 60,000 after acceptance and at most 4,000,000,000"], ["dueInRange"]),
+        ("Station", ["I~ station 1 to N"], ["stationInUse"]),
+        ("Costs", ["I~ costs in range"], ["costsInRange"]),
+        ("Maxima", ["I~ each maximum at least the own cost and at most 6,000"], ["maximaInRange"]),
+        ("Sum, and on time", ["I~ the sum at least the own largest cost; the order on time"], ["sumInRange"]),
+        ("Fields beyond N", ["I~ fields beyond N zero"], ["zeroBeyond", "recordZeroBeyond", "isIdle", "fieldsBeyondZero"]),
+        ("Stations", ["I~ each station idle (0, 0) or serving a live order that is at it, with ticks to go from 1 to its cost there"],
+         ["serves", "servicesInOrder"]),
+        ("The clauses in turn", ["I: Sound means", "Q: Image sound?"], ["clauses", "sound"]),
+    ]),
+    ("specs/Questions.antt", "Questions and reply", [
+        ("A question, and the first \"no\"", ["Q~ If no: 1"], ["Question", "firstNo"]),
+        ("What the reply holds", ["Q: The reply holds"], ["Answer", "replyBytes"]),
+        ("Zeros", ["Q: Declined", "Q~ open gives zeros"], ["zeros"]),
+    ]),
+    ("specs/Admission.antt", "An offer", [
+        ("An order block read", ["I: An order block is"], ["blockOf"]),
+        ("The due tick", ["C: Its due-in is", "C: Due tick ="], ["dueOf"]),
+        ("The newcomer's record", ["D: Offer tries the sums", "D: For an accepted order T", "R: It waits at station 1"], ["arrival"]),
+        ("A live order that the newcomer joins", ["D: For an accepted order T", "D: Offer tries the sums"], ["joinedBy", "joinedLive"]),
+        ("The accepted state", ["C: Tickets run from 1", "I~ next ticket (4), 0 when none is left"], ["accept"]),
+        ("The smallest margin", ["Q~ the smallest margin over newcomer and live orders"], ["smallest", "smallestMargin"]),
+        ("Question 5", ["Q: Order block 28 bytes?"], ["blockLengthQuestion"]),
+        ("Questions 6 and 7", ["Q: Costs of stations", "Q: Due-in 0 to"], ["blockQuestions"]),
+        ("Questions 8 to 12", ["Q: Due tick at most", "Q: A ticket left?", "Q: Fewer than 32", "Q: Newcomer on time?", "Q: Every live order still"],
+         ["stateQuestions"]),
+        ("Questions 5 to 12", ["Q~ quote and offer 1 to 12"], ["orderQuestions"]),
+        ("What offer gives", ["Q: Done: open gives", "Q: Declined"], ["offerAnswer"]),
+        ("What quote gives", ["D: Quote gives"], ["quoteAnswer"]),
+    ]),
+    ("specs/Calls.antt", "The calls", [
+        ("What a call returns and leaves", ["C: The cabinet's C firmware"], ["Result"]),
+        ("The number, the image, the reply", ["Q: The reply holds", "Q: After 1", "Q: Every decline"], ["result"]),
+        ("Questions 1 to 4", ["Q: Is the lent reply", "Q: Is the image", "Q: Mark and version", "Q: Image sound?"],
+         ["replyQuestion", "lengthQuestion", "imageQuestions"]),
+        ("Open", ["Q: N from 1 to 8?", "Q~ Open takes 1, 2, 14", "Q~ open gives zeros and a fresh image (clock 0, next ticket 1)"], ["openNumber", "openCall"]),
+        ("Offer", ["Q~ quote and offer 1 to 12",
+                   "Q~ offer gives the ticket, acceptance tick + delay sum, and the smallest margin over newcomer and live orders"],
+         ["offerNumber", "offerCall"]),
+        ("Quote", ["D: Quote gives"], ["quoteCall"]),
+        ("Advance", ["Q: Clock below", "Q: Open takes", "Q~ advance gives the ticket out or 0, the new clock, and 0"],
+         ["advanceNumber", "advanceAnswer", "advanceCall"]),
+        ("A call by its kind", ["R~ which call it is, its arguments other than image and reply"], ["Call", "perform"]),
+    ]),
+    ("specs/History.antt", "The run book", [
+        ("An accepted order", ["R~ every order accepted so far", "R~ with the new clock as its out tick"], ["Entry"]),
+        ("The book", ["R: It holds N"], ["History"]),
+        ("Its beginning", ["R: It starts with"], ["begun"]),
+        ("Live", ["R: In the book, live means"], ["isNone", "live", "liveOrders"]),
+        ("The due tick", ["C: Due tick ="], ["entryDue"]),
+        ("The company", ["D: For an accepted order T", "D: Members that are out"], ["members"]),
+        ("Acceptance tick + delay sum", ["D: Delay sum of T", "R~ acceptance tick + delay sum"], ["entryBound"]),
+        ("Offer returning 0", ["R: Offer returning 0", "R: Its ticket is", "R: It waits at station 1", "R: Its company is"], ["entering", "joins", "acceptIn"]),
+        ("Advance returning 0", ["R: Advance returning 0"], ["entryView", "startsIn", "tickIn"]),
+        ("Out", ["R: An order that is out", "T: An order with nothing to go"], ["leaves", "leaveIn"]),
+        ("The course of one tick, in the book", ["R~ the course of one tick, on the book's own stations and clock"], ["advanceIn"]),
+        ("The book is fed", ["R: The book is fed", "R: Quote, and any call"], ["feed"]),
+        ("Who is out at a tick", ["R~ the ticket out in the book, or 0"], ["isAt", "outAt"]),
+    ]),
+    ("specs/Demand3.antt", "Demand 3", [
+        ("A call of the list, with its reply", ["R: Offers and quotes get"], ["Lent"]),
+        ("The image and the book beside it", ["R~ gets the image as the call before left it", "R~ The book is fed the calls in turn"], ["Run"]),
+        ("The beginning", ["R: A list starts"], ["started"]),
+        ("Call after call", ["R: Each call gets", "R: The book is fed"], ["outcome", "afterCall", "afterAll"]),
+        ("Which lists", ["R: Demand 3 speaks of"], ["Allowed", "AllAllowed"]),
+        ("Each accepted order", ["R: After every such list"], ["InTime"]),
+        ("Each reply", ["R: The reply of each done offer"], ["Agrees", "AllAgree"]),
+        ("The claim about one list", ["R: This is a single claim", "R~ After every such list, for each accepted order"], ["Kept"]),
+        ("The claim", ["R: A list starts", "R: Demand 3 speaks of"], ["Demand3"]),
+    ]),
+]
+
+# Sentences of these sections that no definition of demand 3 renders, and where they are kept. Names with a file are checked.
+ELSEWHERE = [
+    ("C: Inside the work", "the calls are in crates/dispatcher, plan in crates/planner, its program in crates/plan"),
+    ("C: Outside it", "outside"),
+    ("C: The model is that of", "docs/DECISIONS.md, landing 1, where the sources differ"),
+    ("C: Source document 000", "docs/DECISIONS.md, landing 1, where the sources differ"),
+    ("C: Where the sources", "docs/DECISIONS.md, landing 1, where the sources differ"),
+    ("C: Documents 001 to 003", "nothing is taken from them"),
+    ("C: A tick is 0.1 s.", "the definitions count ticks; include/dispatcher.h asks the firmware for an advance in each 0.1 s"),
+    ("T: An order accepted at tick 5", "theorem `StartsOnceAccepted` (crates/schedule/specs/Timing.antt)"),
+    ("T: One that leaves station 1", "theorem `StartsOnceMoved` (crates/schedule/specs/Timing.antt)"),
+    ("T: At most one order is out", "theorem `OneOutPerTick` (crates/delay/specs/DueTimes.antt)"),
+]
+
+# What the libraries' names mean. Each is looked up by the module that the `use` line names.
+LIBRARY = {
+    "the language": {
+        "Type": "`Type 0` is the type of types: a definition of type `Type 0` is a statement or a kind of data",
+        "Unit": "`Unit {0}`, the statement that says nothing",
+        "×": "`P × Q`: P and Q",
+    },
+    "Prim.Native.Nat": {
+        "ℕ": "the numbers 0, 1, 2, .. without end",
+        "zero": "0",
+        "suc": "`suc n` is n + 1",
+        "_+_": "sum",
+        "_*_": "product",
+        "_-_": "difference, and 0 where the second number is the larger",
+        "_/_": "quotient, rounded down",
+        "_%_": "remainder",
+        "max": "the larger of two",
+        "_≤_": "at most, as a statement",
+        "_<_": "below, as a statement",
+    },
+    "mathlib.Core.Bool": {
+        "Bool": "the answers of a test",
+        "true": "yes",
+        "false": "no",
+        "cond": "`cond b x y` is x where b is true, and y where it is false",
+        "_&&_": "both",
+        "_||_": "one of the two at least",
+    },
+    "mathlib.Core.List": {
+        "List": "`List A`, lists of any length with entries in A",
+        "[]": "the empty list",
+        "_∷_": "`x ∷ l` is x and then the entries of l",
+        "_++_": "`l ++ m` is the entries of l and then those of m",
+        "map": "`map f l` is f of each entry of l, in order",
+        "List·Memᴰ": "`List·Memᴰ x l`: x is one of the entries of l",
+    },
+    "mathlib.Core.Option": {
+        "Option": "`Option A`, a value of A or none",
+        "none": "no value",
+        "some": "`some x` is the value x",
+    },
+    "mathlib.Core.Path": {"_≡_": "equal, as a statement"},
+    "mathlib.Core.Logic": {"_≢_": "not equal, as a statement"},
+    "lib.ListN": {
+        "length": "the number of entries",
+        "getD": "`getD l i d` is the entry of l at place i, counted from 0, and d where there is none",
+        "take": "`take n l` is the first n entries, or all where there are fewer",
+        "drop": "`drop n l` is what follows the first n entries",
+        "replicate": "`replicate n x` is n times x",
+    },
+    "lib.Dec": {
+        "leb": "the test at most",
+        "ltb": "the test below",
+        "eqb": "the test equal",
+    },
+    "lib.IntN": {
+        "ℤ": "whole numbers",
+        "pos": "`pos n` is the whole number n",
+        "negsuc": "`negsuc n` is the whole number -(n + 1)",
+        "_-ℤ_": "difference of whole numbers",
+    },
+    "lib.Signed": {"ltZ": "the test below, of whole numbers"},
+}
+
+# The calls in code: functions whose contracts cite the definitions, and the record that their contracts are.
+CODE = [
+    ("crates/dispatcher/src/open.rt", "dispatcher_open", "openCall"),
+    ("crates/dispatcher/src/offer.rt", "dispatcher_quote", "quoteCall"),
+    ("crates/dispatcher/src/offer.rt", "dispatcher_offer", "offerCall"),
+    ("crates/dispatcher/src/advance.rt", "dispatcher_advance", "advanceCall"),
+]
+GIVES = ("crates/call_results/specs/Gives.antt", "Gives")
+
+KEYWORDS = {"let", "in", "record", "where", "λ", "→", "=", ":", "pub", "abbrev", "unfoldable", "unfolding", "data", ".", "infix", "infixl", "infixr"}
+TOKEN = re.compile(r"«[^»]*»|\.«?[^\s(){};,.]+»?|[^\s(){};,]+|[(){};,]")
+HEAD = re.compile(r"^(?:(?:unfoldable|abbrev|pub) )*(?:(record|data) )?(«[^»]*»|[^\s:(){}]+)\s")
+
+
+def fail(text):
+    sys.exit(f"reading.py: {text}")
+
+
+def read(path):
+    file = ROOT / path
+    if not file.is_file():
+        fail(f"{path}: no such file")
+    return file.read_text(encoding="utf-8")
+
+
+# ---- the sources
+
+
+class Definition:
+    """A declaration of a specs file, or a struct of code: its comment and its code, line by line."""
+
+    def __init__(self, module, name, kind, comment, code):
+        self.module, self.name, self.kind, self.comment, self.code = module, name, kind, comment, code
+        self.fields, self.constructors = [], []
+        if kind == "struct":
+            self.fields = re.findall(r"^\s+pub (\w+):", "\n".join(code), re.M)
+        elif kind == "record":
+            self.fields = [f.strip("«»") for f in re.findall(r"^  pub (\S+) :", "\n".join(code), re.M)]
+        elif kind == "data":
+            self.constructors = re.findall(r"^  (\S+) :", "\n".join(code), re.M)
+
+
+class Module:
+    """A file of specs: what it imports, what it declares, and the comment that it begins with."""
+
+    def __init__(self, name, path):
+        self.name, self.path = name, path
+        self.imports, self.aliases, self.declared, self.order, self.opening = {}, {}, {}, [], []
+        paragraphs = [[]]
+        for line in read(path).split("\n"):
+            if line.strip():
+                paragraphs[-1].append(line)
+            elif paragraphs[-1]:
+                paragraphs.append([])
+        waiting = []
+        for place, lines in enumerate(p for p in paragraphs if p):
+            uses = [x for x in lines if x.startswith("use ")]
+            for line in uses:
+                self.use(line)
+            comment = [x for x in lines if x.startswith("--")]
+            code = [x for x in lines if not x.startswith(("--", "use "))]
+            if not code:
+                if place == 0:
+                    self.opening = comment
+                else:
+                    waiting += comment
+                continue
+            if uses:
+                fail(f"{path}: a declaration stands in the paragraph of the `use` lines")
+            head = next(x for x in code if not x.startswith(("infix ", "infixl ", "infixr ")))
+            found = HEAD.match(head + " ")
+            if not found:
+                fail(f"{path}: no declaration: {head}")
+            kind, name_here = found.group(1) or "function", found.group(2).strip("«»")
+            others = [x for x in code if re.match(r"(unfoldable|abbrev|pub) ", x) and x is not head]
+            if others:
+                fail(f"{path}: two declarations in one paragraph: {others[0]}")
+            definition = Definition(self, name_here, kind, waiting + comment, code)
+            waiting = []
+            self.order.append(name_here)
+            for own in [name_here] + definition.constructors:
+                if own in self.declared:
+                    fail(f"{path}: {own} is declared twice")
+                self.declared[own] = definition
+
+    def use(self, line):
+        several = re.fullmatch(r"use (\S+?)\.\{(.*)\}", line)
+        renamed = re.fullmatch(r"use (\S+) as (\S+)", line)
+        if several:
+            for part in several.group(2).split(","):
+                name, _, new = part.strip().partition(" as ")
+                self.imports[(new or name).strip()] = (several.group(1), name.strip())
+        elif renamed:
+            self.aliases[renamed.group(2)] = renamed.group(1)
+        elif re.fullmatch(r"use \S+", line):
+            whole = line.split()[1]
+            self.aliases[whole.split(".")[-1]] = whole
+        else:
+            fail(f"{self.path}: a `use` line of another form: {line}")
+
+
+class Structs:
+    """The structs of a crate's code, which its definitions import as records."""
+
+    def __init__(self, path):
+        self.name, self.path, self.opening, self.order, self.declared = "structs", path, [], [], {}
+        comment, code = [], []
+        for line in read(path).split("\n"):
+            if line.startswith("//"):
+                comment.append(line)
+            elif line.startswith("pub struct ") or code:
+                code.append(line)
+                if line == "}":
+                    name = re.match(r"pub struct (\w+)", code[0]).group(1)
+                    self.declared[name] = Definition(self, name, "struct", comment, code)
+                    self.order.append(name)
+                    comment, code = [], []
+            else:
+                if not self.order and not self.opening:
+                    self.opening = comment
+                comment = []
+
+
+MODULES = {}
+
+
+def module_of(name, asking):
+    """The module that a whole name leads to: a file of specs of a crate, a struct of its code, or none, where it is a library's."""
+    found = re.fullmatch(r"Rattle·(\w+?)(·specs)?\.specs\.(.+)", name)
+    if not found:
+        if name.startswith("Rattle"):
+            fail(f"{asking}: {name} is no module of definitions")
+        return None
+    crate, rest = found.group(1), found.group(3)
+    declared = rest.startswith("declared.")
+    key = (crate, "declared" if declared else rest)
+    if key not in MODULES:
+        MODULES[key] = Structs(f"crates/{crate}/src/lib.rt") if declared else Module(rest, f"crates/{crate}/specs/{rest.replace('.', '/')}.antt")
+    return MODULES[key]
+
+
+def tokens_of(code):
+    text = "\n".join(re.sub(r"(^|\s)--.*", "", line) for line in code)
+    return text, TOKEN.findall(text)
+
+
+def bound_in(definition, text):
+    """The names that a definition binds itself: arguments, `let`, `λ`, and the fields that it builds or declares."""
+    names = set()
+    for group in re.findall(r"[({]([^(){}:;=]+?) :(?=\s)", text):
+        names.update(group.split())
+    for group in re.findall(r"λ\s+([^.()]+)\.", text):
+        names.update(group.split())
+    names.update(re.findall(r"\blet\s+(\S+)", text))
+    for head in re.findall(rf"^{re.escape(definition.name)} ([^=]*)=(?=\s|$)", text, re.M):
+        names.update(t.strip(".") for t in TOKEN.findall(head))
+    return {n.strip("«»") for n in names}
+
+
+def resolve(definition):
+    """What a definition names: definitions of the crates, and names of libraries. Every other word has to be bound in it."""
+    module, used, library, projected = definition.module, set(), set(), set()
+    if definition.kind == "struct":
+        for kind in re.findall(r": (.*),$", "\n".join(definition.code), re.M):
+            if not re.fullmatch(r"u8|u16|u32|\[(u8|u16); 8\]", kind):
+                fail(f"{module.path}: a field of {definition.name} has the type {kind}")
+        return used, library, projected
+    text, tokens = tokens_of(definition.code)
+    # Fields that a record is built with, and those that are declared, are no names in scope.
+    built = set(re.findall(r"(?:record\s*\{|;)\s*«?([\w-]+)»?\s*=(?=\s)", text))
+    bound = bound_in(definition, text)
+    scope = {}
+    for own, target in module.declared.items():
+        scope[own] = ("crate", target)
+    for name, (source, original) in module.imports.items():
+        other = module_of(source, module.path)
+        if other is None:
+            scope[name] = ("library", (source, original))
+        elif original in other.declared:
+            scope[name] = ("crate", other.declared[original])
+        else:
+            fail(f"{module.path}: {source} has no {original}")
+    for name in list(scope):
+        if name.startswith("_") and name.endswith("_") and len(name) > 2:
+            scope[name[1:-1]] = scope[name]
+    for name in LIBRARY["the language"]:
+        scope.setdefault(name, ("library", ("the language", name)))
+    own_words = {definition.name, *definition.fields, *definition.constructors}
+    own_words |= {c.strip("_") for c in definition.constructors}
+    for place, token in enumerate(tokens):
+        if token.startswith(".") and len(token) > 1:
+            projected.add(token[1:].strip("«»"))
+            continue
+        word = token.strip("«»")
+        if len(word) > 1 and word.endswith("."):
+            word = word[:-1]
+        if word in KEYWORDS or word in "(){};," or re.fullmatch(r"[0-9]+", word):
+            continue
+        if word in built and place + 1 < len(tokens) and tokens[place + 1] == "=" and tokens[place - 1] in ("{", ";"):
+            continue
+        if "." in word:
+            alias, _, name = word.rpartition(".")
+            source = module.aliases.get(alias)
+            if source is None:
+                fail(f"{module.path}: {definition.name}: {word} is not known")
+            other = module_of(source, module.path)
+            if other is None:
+                library.add((source, name))
+            else:
+                used.add(other.declared[name])
+            continue
+        # A word that is bound here and also names something outside is followed too: more may be read than is needed, but nothing is missed.
+        if word in scope and word not in own_words:
+            kind, target = scope[word]
+            (library if kind == "library" else used).add(target)
+            continue
+        if word not in bound and word not in own_words:
+            fail(f"{module.path}: {definition.name}: the name {word} is neither a definition nor a name of a library")
+    return used, library, projected
+
+
+def closure_of(first):
+    """Every definition that the first one rests on, with what each names."""
+    found, waiting = {}, [first]
+    while waiting:
+        definition = waiting.pop()
+        if definition in found:
+            continue
+        found[definition] = resolve(definition)
+        waiting += found[definition][0]
+    fields = {f for d in found for f in d.fields}
+    for definition, (_, _, projected) in found.items():
+        for name in projected - fields:
+            fail(f"{definition.module.path}: {definition.name}: .{name} is a field of no record that is read here")
+    return found
+
+
+# ---- document 01
+
+
+def plain(text):
+    return re.sub(r"\s+", " ", text).strip()
+
+
+def document():
+    """The sentences and points of each section, in order: (mark, text), where the mark is that of a list's point."""
+    sections = {}
+    for part in re.split(r"(?m)^## ", (HERE / "document-01.md").read_text(encoding="utf-8"))[1:]:
+        title, _, body = part.partition("\n")
+        units = []
+        for block in re.split(r"\n\n|\n(?=\d+\. |- )", body.strip()):
+            mark = re.match(r"\d+\. |- ", block)
+            text = plain(block[mark.end():] if mark else block)
+            for n, sentence in enumerate(re.split(r"(?<=[^.]\.) (?=[A-Z0-9])", text)):
+                units.append((mark.group(0) if mark and n == 0 else "", sentence))
+        sections[title] = units
+    return sections
+
+
+DOCUMENT = document()
+RENDERED = set()
+
+
+def passage(text):
+    """One line of quotation for a passage, and the sentence that it is taken from."""
+    letter, sign, words = text[0], text[1], text[2:].strip()
+    title = SECTIONS[letter]
+    units = DOCUMENT.get(title)
+    if units is None:
+        fail(f"document-01.md has no section '{title}'")
+    if sign == ":":
+        found = [(n, m, s) for n, (m, s) in enumerate(units) if s.startswith(words)]
+        if len(found) != 1:
+            fail(f"document 01, '{title}': {len(found)} sentences begin with '{words}'")
+        n, mark, sentence = found[0]
+        return title, (letter, n), (mark if mark != "- " else "") + sentence
+    found = [(n, s) for n, (_, s) in enumerate(units) if words in s]
+    if not found:
+        fail(f"document 01, '{title}', has no words '{words}'")
+    n, sentence = found[0]
+    before = "" if sentence.startswith(words) else ".. "
+    after = "" if sentence.rstrip(".").endswith(words) else " .."
+    return title, (letter, n), before + words + after
+
+
+def quotations(definitions):
+    """Every quotation in the comments stands in document 01."""
+    text = plain(" ".join(s for units in DOCUMENT.values() for _, s in units) + " " + " ".join(DOCUMENT))
+    text = text.replace('"no"', "'no'")
+    count = 0
+    for name, comment in definitions:
+        said = plain(" ".join(re.sub(r"^(--|//) ?", "", line) for line in comment)).replace('"no"', "'no'")
+        for quote in re.findall(r'"([^"]*)"', said):
+            count += 1
+            for piece in re.split(r"\s*\.\.\s*", quote):
+                piece = piece.strip(" .:;,?")
+                if piece not in text:
+                    fail(f"{name}: the comment quotes '{piece}', which document 01 does not have")
+    return count
+
+
+# ---- the page
+
+
+def wrapped(text, first="", later=None):
+    return textwrap.wrap(text, WIDTH, initial_indent=first, subsequent_indent=first if later is None else later, break_long_words=False, break_on_hyphens=False)
+
+
+def anchor(title):
+    return re.sub(r"[^\w\- ]", "", title.lower()).replace(" ", "-")
+
+
+def proved():
+    """The lines in which rt says that the crates under the theorem are proved, and the crates."""
+    uses = {}
+    for line in read("crates.txt").split("\n"):
+        name, colon, rest = line.partition("#")[0].partition(":")
+        if colon:
+            uses[name.strip()] = rest.split()
+    reached, waiting = [], [PROVED_IN]
+    while waiting:
+        name = waiting.pop()
+        if name not in reached:
+            reached.append(name)
+            waiting += uses[name]
+    lines = {}
+    for name in reached:
+        log = ROOT / "target" / "log" / f"{name}.say"
+        if not log.is_file():
+            fail(f"target/log has nothing of crate {name}: run `rt check {PROVED_IN}` first")
+        said = [x for x in log.read_text(encoding="utf-8").split("\n") if x.startswith("logic=")]
+        if len(said) != 1 or not said[0].startswith("logic=proved "):
+            fail(f"crate {name} is not proved: {said}")
+        if "foreign=" in said[0] or "axioms=" in said[0] or re.search(r"^axioms ", log.read_text(encoding="utf-8"), re.M):
+            fail(f"crate {name} rests on something assumed: {said[0]}")
+        lines[name] = said[0]
+    return lines, [n for n in uses if n in reached]
+
+
+def contract(path, name, cites):
+    """The head of a function of code, with its contract."""
+    text = read(path)
+    found = re.search(rf'^pub extern "C" fn {name}\(.*?(?=^\{{)', text, re.M | re.S)
+    if not found:
+        fail(f"{path} has no {name}")
+    if f"({cites} " not in found.group(0) or "requires" in found.group(0):
+        fail(f"{path}: the contract of {name} is not that it gives {cites}, for all arguments")
+    return found.group(0).rstrip("\n").split("\n")
+
+
+def lines_of(definition):
+    return sum(1 for line in definition.code if line.strip())
+
+
+def main():
+    statement = module_of(f"Rattle.{CRATE}.specs.{STATEMENT[0]}", "reading.py").declared[STATEMENT[1]]
+    found = closure_of(statement)
+    if not re.search(rf"^pub {re.escape(PROOF[0])} : {STATEMENT[1]}$", read(PROOF[1]), re.M):
+        fail(f"{PROOF[1]} has no {PROOF[0]} : {STATEMENT[1]}")
+
+    # Every definition has its place in the table, and every place a definition.
+    by_place = {(d.module.path, d.name): d for d in found}
+    placed, sections, seen = set(), [], set()
+    for number, (file, title, groups) in enumerate(FILES, 1):
+        path = f"crates/{CRATE}/{file}"
+        here = [(path, n) for _, _, names in groups for n in names]
+        for place in here:
+            if place not in by_place:
+                fail(f"the table has {place[1]} of {path}, which is no definition that {STATEMENT[1]} rests on")
+            if place in placed:
+                fail(f"the table has {place[1]} twice")
+            placed.add(place)
+        module = by_place[here[0]].module
+        places = [module.order.index(n) for _, n in here]
+        if places != sorted(places):
+            fail(f"the table has the definitions of {path} in another order than the file")
+        sections.append((number, path, title, module, groups))
+    for place in sorted(set(by_place) - placed):
+        fail(f"{place[1]} ({place[0]}) has no words of document 01 in the table")
+    where = {}
+    for number, path, title, module, groups in sections:
+        for n, (group, said, names) in enumerate(groups, 1):
+            for name in names:
+                definition = by_place[(path, name)]
+                for other in found[definition][0]:
+                    if other not in seen:
+                        fail(f"{name} stands before {other.name}, which it uses")
+                seen.add(definition)
+                where[definition] = (f"{number}.{n}", f"{number}.{n} {group}")
+
+    comments = [(d.name, d.comment) for d in found] + [(m.path, m.opening) for _, _, _, m, _ in sections]
+    quoted = quotations(comments)
+    used_by = {}
+    for definition, (used, _, _) in found.items():
+        for other in used:
+            used_by.setdefault(other, set()).add(definition)
+
+    body = []
+    for number, path, title, module, groups in sections:
+        opening = plain(" ".join(re.sub(r"^(--|//) ?", "", line) for line in module.opening))
+        body += [f"## {number}. {title}", "", *wrapped(f"`{path}`. {opening}"), ""]
+        for n, (group, said, names) in enumerate(groups, 1):
+            body += [f"### {number}.{n} {group}", ""]
+            if said == OWN:
+                users = {where[u] for name in names for u in used_by[by_place[(path, name)]] if u.name not in names}
+                users = sorted(users, key=lambda w: [int(x) for x in w[0].split(".")])
+                body += [*wrapped(f"{OWN} Used in {', '.join(f'[{w[0]}](#{anchor(w[1])})' for w in users)}."), ""]
+            else:
+                last = None
+                for text in said:
+                    heading, key, words = passage(text)
+                    RENDERED.add(key)
+                    body += [">"] if last else []
+                    body += wrapped(f"**{heading}:** {words}" if heading != last else words, "> ")
+                    last = heading
+                body.append("")
+            body.append("```")
+            for position, name in enumerate(names):
+                definition = by_place[(path, name)]
+                body += ([""] if position else []) + definition.comment + definition.code
+            body += ["```", ""]
+
+    lost = []
+    reasons = {}
+    for text, reason in ELSEWHERE:
+        _, key, words = passage(text)
+        if key in RENDERED:
+            fail(f"ELSEWHERE has a sentence that a definition renders: {words}")
+        for name, file in re.findall(r"`([^`]+)` \((crates/[^)]*)\)", reason):
+            if not re.search(rf"^\s*((unfoldable|abbrev|pub|record|data) )*{re.escape(name)}[ (]", read(file), re.M):
+                fail(f"{name} is not declared in {file}")
+        reasons[key] = (words, reason)
+    for letter, title in SECTIONS.items():
+        for n, (_, sentence) in enumerate(DOCUMENT[title]):
+            if (letter, n) not in RENDERED and (letter, n) not in reasons:
+                lost.append(sentence)
+    if lost:
+        fail(f"no definition renders this sentence of document 01, and ELSEWHERE does not say where it is kept: {lost[0]}")
+
+    names = sorted({x for _, library, _ in found.values() for x in library})
+    for source, name in names:
+        if name not in LIBRARY.get(source, {}):
+            fail(f"{name} of {source} has no meaning in the table LIBRARY")
+    for source, meanings in LIBRARY.items():
+        for name in meanings:
+            if (source, name) not in names:
+                fail(f"the table LIBRARY has {name} of {source}, which no definition uses")
+
+    verdicts, crates = proved()
+    files = len({d.module.path for d in found})
+    lines = sum(lines_of(d) for d in found)
+    structs = sum(1 for d in found if d.kind == "struct")
+    sentences = sum(len(DOCUMENT[t]) for t in SECTIONS.values())
+
+    between = [c for c in crates if c not in (CRATE, PROVED_IN)]
+    opening = (HERE / "reading-opening.md").read_text(encoding="utf-8")
+    for word, value in {
+            "definitions": len(found), "structs": structs, "lines": lines, "files": files, "names": len(names), "quoted": quoted, "sentences": sentences,
+            "rendered": len(RENDERED), "elsewhere": len(reasons), "verdicts": "\n".join(f"{name}: {verdicts[name]}" for name in (CRATE, PROVED_IN)),
+            "between": ", ".join(f"`{c}`" for c in between)}.items():
+        if f"@{word}@" not in opening:
+            fail(f"reading-opening.md has no place for @{word}@")
+        opening = opening.replace(f"@{word}@", str(value))
+    for fact in (f"`{STATEMENT[1]}`", f"`{statement.module.path}`", f"`{PROOF[0]}` (`{PROOF[1]}`)"):
+        if fact not in opening:
+            fail(f"reading-opening.md does not name {fact}")
+    page = opening.rstrip("\n").split("\n")
+    page += ["", "## Contents", ""]
+    for number, path, title, module, groups in sections:
+        count = sum(len(names_here) for _, _, names_here in groups)
+        page += [f"{number}. [{title}](#{anchor(f'{number}. {title}')}), {count} definition{'s' if count > 1 else ''}"]
+    after = len(sections)
+    tail = ["The calls in code", "Sentences that no definition renders", "Names of the libraries", "Index"]
+    for n, title in enumerate(tail, after + 1):
+        page += [f"{n}. [{title}](#{anchor(f'{n}. {title}')})"]
+    page.append("")
+    page += body
+
+    page += [f"## {after + 1}. {tail[0]}", ""]
+    page += wrapped("Not part of the statement, but what joins it to the library that is built: the contract of each C function, in which the definitions"
+                    " above are cited. `image .entry` is the buffer before the call and `image .exit` after it, `now` is what it holds, and r the number"
+                    " that is returned. There is no `requires`: the contracts hold for all arguments.")
+    page += ["", "```"]
+    gives = Module("Gives", GIVES[0]).declared[GIVES[1]]
+    page += Module("Gives", GIVES[0]).opening + gives.comment + gives.code
+    for path, name, cites in CODE:
+        page += ["", f"// {path}", *contract(path, name, cites)]
+    page += ["```", "", f"## {after + 2}. {tail[1]}", ""]
+    page += wrapped("Of the six sections of document 01 that are quoted above, these sentences are rendered by no definition of demand 3:")
+    page.append("")
+    for words, reason in reasons.values():
+        page += wrapped(f"\"{words.rstrip('.')}\": {reason}.", "- ", "  ")
+    page += ["", f"## {after + 3}. {tail[2]}", "", "| name | module | meaning |", "|---|---|---|"]
+    for source, meanings in LIBRARY.items():
+        module = source if source == "the language" else f"`{source}`"
+        page += [f"| `{name}` | {module} | {meaning} |".replace("`_||_`", "`_\\|\\|_`") for name, meaning in meanings.items()]
+    page += ["", f"## {after + 4}. {tail[3]}", "", "| definition | where | what it names |", "|---|---|---|"]
+    for definition in sorted(found, key=lambda d: (d.name.lower(), d.name)):
+        used = sorted((o.name for o in found[definition][0]), key=lambda name: (name.lower(), name))
+        number, title = where[definition]
+        page += [f"| `{definition.name}` | [{number}](#{anchor(title)}) | {', '.join(f'`{u}`' for u in used)} |"]
+    text = "\n".join(page) + "\n"
+    sys.stdout.write(text)
+    print(f"{len(found)} definitions, {lines} lines, {files} files; {len(names)} library names; {quoted} quotations in comments, all in document 01; "
+          f"{sentences} sentences of document 01: {len(RENDERED)} rendered, {len(reasons)} kept elsewhere; {len(crates)} crates proved, axioms=0",
+          file=sys.stderr)
+
+
+main()
