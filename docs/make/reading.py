@@ -83,7 +83,7 @@ FILES = [
         ("The three steps in order", ["T: Advance does this", "Q~ advance gives the ticket out or 0"], ["advance", "advanceOut"]),
     ]),
     ("specs/DelayBound.antt", "The delay sum", [
-        ("The members' largest costs, added up", ["D: Delay sum of T"], ["sumOf"]),
+        ("The members' largest costs, added up", ["D~ Delay sum of T = the largest station cost of each member, added up"], ["sumOf"]),
         ("The largest cost at each station", ["D~ the largest cost any member has there"], ["maximaOf"]),
         ("The delay sum", ["D~ plus, for each station before N, the largest cost any member has there", "D: With N = 1"], ["delayBound"]),
         ("On time", ["D: T is on time"], ["boundTick", "onTime"]),
@@ -118,7 +118,7 @@ FILES = [
         ("The image that says it", ["I: Bytes 0 to 2", "I~ live ones first in ticket order, the rest all zero"], ["encode"]),
     ]),
     ("specs/Soundness.antt", "Soundness", [
-        ("Number of stations", ["I: Sound means"], ["stationCountInRange"]),
+        ("Number of stations", ["I~ N 1 to 8"], ["stationCountInRange"]),
         ("Live count", ["I~ live at most 32"], ["liveCountInRange"]),
         ("Clock", ["I~ clock at most 4,000,000,000"], ["clockInRange"]),
         ("Zero bytes", ["I~ zero bytes and unused records zero"], ["zeroBytes", "zeroBytesZero"]),
@@ -196,6 +196,14 @@ FILES = [
         ("The claim", ["R: A list starts", "R: Demand 3 speaks of"], ["Demand3"]),
     ]),
 ]
+
+# What stands at the head of a file's section: the passage whole, before it is taken part by part.
+WHOLE = {
+    "specs/Tick.antt": ["T: Advance does this", "T: Each idle station", "T: The clock goes up by one", "T: An order with nothing to go"],
+    "specs/DelayBound.antt": ["D: For an accepted order T", "D: Members that are out", "D: Delay sum of T", "D: With N = 1", "D: T is on time", "D: Margin is"],
+    "specs/Soundness.antt": ["I: Sound means"],
+    "specs/History.antt": ["R: The book is fed", "R: It holds N", "R: It starts with"],
+}
 
 # Sentences of these sections that no definition of demand 3 renders, and where they are kept. Names with a file are checked.
 ELSEWHERE = [
@@ -560,6 +568,24 @@ def passage(text):
     return title, (letter, n), before + words + after
 
 
+def quoted_lines(said, renders=True):
+    """Passages as lines of a quotation. Sentences that follow each other in document 01 stand in one paragraph."""
+    paragraphs = []
+    for text in said:
+        heading, key, words = passage(text)
+        if renders:
+            RENDERED.add(key)
+        last = paragraphs[-1] if paragraphs else None
+        if last and text[1] == ":" and last[1] == (key[0], key[1] - 1) and not DOCUMENT[heading][key[1]][0]:
+            paragraphs[-1] = (heading, key, f"{last[2]} {words}")
+        else:
+            paragraphs.append((heading, key if text[1] == ":" else None, words if last and last[0] == heading else f"**{heading}:** {words}"))
+    lines = []
+    for _, _, words in paragraphs:
+        lines += [*([">"] if lines else []), *wrapped(words, "> ")]
+    return lines + [""] if lines else []
+
+
 def quotations(definitions):
     """Every quotation in the comments stands in document 01."""
     text = plain(" ".join(s for units in DOCUMENT.values() for _, s in units) + " " + " ".join(DOCUMENT))
@@ -676,6 +702,7 @@ def main():
     for number, path, title, module, groups in sections:
         opening = plain(" ".join(re.sub(r"^(--|//) ?", "", line) for line in module.opening))
         body += [f"## {number}. {title}", "", *wrapped(f"`{path}`. {opening}"), ""]
+        body += quoted_lines(WHOLE.get(path.split("/", 2)[2], []), False)
         for n, (group, said, names) in enumerate(groups, 1):
             body += [f"### {number}.{n} {group}", ""]
             if said == OWN:
@@ -683,14 +710,7 @@ def main():
                 users = sorted(users, key=lambda w: [int(x) for x in w[0].split(".")])
                 body += [*wrapped(f"{OWN} Used in {', '.join(f'[{w[0]}](#{anchor(w[1])})' for w in users)}."), ""]
             else:
-                last = None
-                for text in said:
-                    heading, key, words = passage(text)
-                    RENDERED.add(key)
-                    body += [">"] if last else []
-                    body += wrapped(f"**{heading}:** {words}" if heading != last else words, "> ")
-                    last = heading
-                body.append("")
+                body += quoted_lines(said)
             body.append("```")
             for position, name in enumerate(names):
                 definition = by_place[(path, name)]
