@@ -136,7 +136,7 @@ FILES = [
         ("The clauses in turn", ["I: Sound means", "Q: Image sound?"], ["clauses", "sound"]),
     ]),
     ("specs/Questions.antt", "Questions and reply", [
-        ("A question, and the first \"no\"", ["Q~ If no: 1"], ["Question", "firstNo"]),
+        ("A question, and the first \"no\"", ["Q: Is the lent reply"], ["Question", "firstNo"]),
         ("What the reply holds", ["Q: The reply holds"], ["Answer", "replyBytes"]),
         ("Zeros", ["Q: Declined", "Q~ open gives zeros"], ["zeros"]),
     ]),
