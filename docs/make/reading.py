@@ -651,73 +651,84 @@ def contract(path, name, cites):
     return found.group(0).rstrip("\n").split("\n")
 
 
-def lines_of(definition):
-    return sum(1 for line in definition.code if line.strip())
+class Reading:
+    """The definitions in reading order: sections by file, and where each definition stands."""
+
+    def __init__(self, found):
+        self.found = found
+        self.by_place = {(d.module.path, d.name): d for d in found}
+        self.sections, self.where = [], {}
+        self.place()
+        self.order()
+
+    def place(self):
+        """Every definition has its place in the table, and every place of the table a definition."""
+        placed = set()
+        for number, (file, title, groups) in enumerate(FILES, 1):
+            path = f"crates/{CRATE}/{file}"
+            here = [(path, name) for _, _, names in groups for name in names]
+            for place in here:
+                if place not in self.by_place:
+                    fail(f"the table has {place[1]} of {path}, which is no definition that {STATEMENT[1]} rests on")
+                if place in placed:
+                    fail(f"the table has {place[1]} twice")
+                placed.add(place)
+            module = self.by_place[here[0]].module
+            places = [module.order.index(name) for _, name in here]
+            if places != sorted(places):
+                fail(f"the table has the definitions of {path} in another order than the file")
+            self.sections.append((number, path, title, module, groups))
+        for place in sorted(set(self.by_place) - placed):
+            fail(f"{place[1]} ({place[0]}) has no words of document 01 in the table")
+
+    def order(self):
+        """Each definition stands after all that it uses."""
+        for number, path, _, _, groups in self.sections:
+            for n, (group, _, names) in enumerate(groups, 1):
+                for name in names:
+                    definition = self.by_place[(path, name)]
+                    for other in self.found[definition][0]:
+                        if other not in self.where:
+                            fail(f"{name} stands before {other.name}, which it uses")
+                    self.where[definition] = (f"{number}.{n}", f"{number}.{n} {group}")
+
+    def link(self, definition):
+        number, title = self.where[definition]
+        return f"[{number}](#{anchor(title)})"
+
+    def users(self, definitions):
+        """Links to where some definitions are used, other than by themselves."""
+        using = {d for d, (used, _, _) in self.found.items() if d not in definitions and used & definitions}
+        places = {self.where[d]: d for d in using}
+        return [self.link(places[place]) for place in sorted(places, key=lambda w: [int(x) for x in w[0].split(".")])]
+
+    def lines(self):
+        """The definitions, section by section, below the words that they render."""
+        lines = []
+        for number, path, title, module, groups in self.sections:
+            opening = plain(" ".join(re.sub(r"^(--|//) ?", "", line) for line in module.opening))
+            lines += [f"## {number}. {title}", "", *wrapped(f"`{path}`. {opening}"), ""]
+            lines += quoted_lines(WHOLE.get(path.split("/", 2)[2], []), False)
+            for n, (group, said, names) in enumerate(groups, 1):
+                here = [self.by_place[(path, name)] for name in names]
+                lines += [f"### {number}.{n} {group}", ""]
+                lines += [*wrapped(f"{OWN} Used in {', '.join(self.users(set(here)))}."), ""] if said == OWN else quoted_lines(said)
+                lines.append("```")
+                for position, definition in enumerate(here):
+                    lines += ([""] if position else []) + definition.comment + definition.code
+                lines += ["```", ""]
+        return lines
+
+    def index(self):
+        lines = ["| definition | where | what it names |", "|---|---|---|"]
+        for definition in sorted(self.found, key=lambda d: (d.name.lower(), d.name)):
+            used = sorted((o.name for o in self.found[definition][0]), key=lambda name: (name.lower(), name))
+            lines.append(f"| `{definition.name}` | {self.link(definition)} | {', '.join(f'`{u}`' for u in used)} |")
+        return lines
 
 
-def main():
-    statement = module_of(f"Rattle.{CRATE}.specs.{STATEMENT[0]}", "reading.py").declared[STATEMENT[1]]
-    found = closure_of(statement)
-    if not re.search(rf"^pub {re.escape(PROOF[0])} : {STATEMENT[1]}$", read(PROOF[1]), re.M):
-        fail(f"{PROOF[1]} has no {PROOF[0]} : {STATEMENT[1]}")
-
-    # Every definition has its place in the table, and every place a definition.
-    by_place = {(d.module.path, d.name): d for d in found}
-    placed, sections, seen = set(), [], set()
-    for number, (file, title, groups) in enumerate(FILES, 1):
-        path = f"crates/{CRATE}/{file}"
-        here = [(path, n) for _, _, names in groups for n in names]
-        for place in here:
-            if place not in by_place:
-                fail(f"the table has {place[1]} of {path}, which is no definition that {STATEMENT[1]} rests on")
-            if place in placed:
-                fail(f"the table has {place[1]} twice")
-            placed.add(place)
-        module = by_place[here[0]].module
-        places = [module.order.index(n) for _, n in here]
-        if places != sorted(places):
-            fail(f"the table has the definitions of {path} in another order than the file")
-        sections.append((number, path, title, module, groups))
-    for place in sorted(set(by_place) - placed):
-        fail(f"{place[1]} ({place[0]}) has no words of document 01 in the table")
-    where = {}
-    for number, path, title, module, groups in sections:
-        for n, (group, said, names) in enumerate(groups, 1):
-            for name in names:
-                definition = by_place[(path, name)]
-                for other in found[definition][0]:
-                    if other not in seen:
-                        fail(f"{name} stands before {other.name}, which it uses")
-                seen.add(definition)
-                where[definition] = (f"{number}.{n}", f"{number}.{n} {group}")
-
-    comments = [(d.name, d.comment) for d in found] + [(m.path, m.opening) for _, _, _, m, _ in sections]
-    quoted = quotations(comments)
-    used_by = {}
-    for definition, (used, _, _) in found.items():
-        for other in used:
-            used_by.setdefault(other, set()).add(definition)
-
-    body = []
-    for number, path, title, module, groups in sections:
-        opening = plain(" ".join(re.sub(r"^(--|//) ?", "", line) for line in module.opening))
-        body += [f"## {number}. {title}", "", *wrapped(f"`{path}`. {opening}"), ""]
-        body += quoted_lines(WHOLE.get(path.split("/", 2)[2], []), False)
-        for n, (group, said, names) in enumerate(groups, 1):
-            body += [f"### {number}.{n} {group}", ""]
-            if said == OWN:
-                users = {where[u] for name in names for u in used_by[by_place[(path, name)]] if u.name not in names}
-                users = sorted(users, key=lambda w: [int(x) for x in w[0].split(".")])
-                body += [*wrapped(f"{OWN} Used in {', '.join(f'[{w[0]}](#{anchor(w[1])})' for w in users)}."), ""]
-            else:
-                body += quoted_lines(said)
-            body.append("```")
-            for position, name in enumerate(names):
-                definition = by_place[(path, name)]
-                body += ([""] if position else []) + definition.comment + definition.code
-            body += ["```", ""]
-
-    lost = []
+def kept_elsewhere():
+    """The sentences that no definition renders, with where they are kept. A sentence that is neither rendered nor kept ends the program."""
     reasons = {}
     for text, reason in ELSEWHERE:
         _, key, words = passage(text)
@@ -730,77 +741,102 @@ def main():
     for letter, title in SECTIONS.items():
         for n, (_, sentence) in enumerate(DOCUMENT[title]):
             if (letter, n) not in RENDERED and (letter, n) not in reasons:
-                lost.append(sentence)
-    if lost:
-        fail(f"no definition renders this sentence of document 01, and ELSEWHERE does not say where it is kept: {lost[0]}")
+                fail(f"no definition renders this sentence of document 01, and ELSEWHERE does not say where it is kept: {sentence}")
+    return reasons
 
-    names = sorted({x for _, library, _ in found.values() for x in library})
-    for source, name in names:
-        if name not in LIBRARY.get(source, {}):
-            fail(f"{name} of {source} has no meaning in the table LIBRARY")
-    for source, meanings in LIBRARY.items():
-        for name in meanings:
-            if (source, name) not in names:
-                fail(f"the table LIBRARY has {name} of {source}, which no definition uses")
 
-    verdicts, crates = proved()
-    files = len({d.module.path for d in found})
-    lines = sum(lines_of(d) for d in found)
-    structs = sum(1 for d in found if d.kind == "struct")
-    sentences = sum(len(DOCUMENT[t]) for t in SECTIONS.values())
+def library_names(found):
+    """The libraries' names that the definitions use, each with a meaning in the table, and no other there."""
+    names = {x for _, library, _ in found.values() for x in library}
+    listed = {(source, name) for source, meanings in LIBRARY.items() for name in meanings}
+    for source, name in sorted(names - listed):
+        fail(f"{name} of {source} has no meaning in the table LIBRARY")
+    for source, name in sorted(listed - names):
+        fail(f"the table LIBRARY has {name} of {source}, which no definition uses")
+    return names
 
-    between = [c for c in crates if c not in (CRATE, PROVED_IN)]
-    opening = (HERE / "reading-opening.md").read_text(encoding="utf-8")
-    for word, value in {
-            "definitions": len(found), "structs": structs, "lines": lines, "files": files, "names": len(names), "quoted": quoted, "sentences": sentences,
-            "rendered": len(RENDERED), "elsewhere": len(reasons), "verdicts": "\n".join(f"{name}: {verdicts[name]}" for name in (CRATE, PROVED_IN)),
-            "between": ", ".join(f"`{c}`" for c in between)}.items():
-        if f"@{word}@" not in opening:
+
+def opening_of(values, facts):
+    """The first part of the page, with the figures put into their places."""
+    text = (HERE / "reading-opening.md").read_text(encoding="utf-8")
+    for word, value in values.items():
+        if f"@{word}@" not in text:
             fail(f"reading-opening.md has no place for @{word}@")
-        opening = opening.replace(f"@{word}@", str(value))
-    for fact in (f"`{STATEMENT[1]}`", f"`{statement.module.path}`", f"`{PROOF[0]}` (`{PROOF[1]}`)"):
-        if fact not in opening:
+        text = text.replace(f"@{word}@", str(value))
+    for fact in facts:
+        if fact not in text:
             fail(f"reading-opening.md does not name {fact}")
-    page = opening.rstrip("\n").split("\n")
-    page += ["", "## Contents", ""]
-    for number, path, title, module, groups in sections:
-        count = sum(len(names_here) for _, _, names_here in groups)
-        page += [f"{number}. [{title}](#{anchor(f'{number}. {title}')}), {count} definition{'s' if count > 1 else ''}"]
-    after = len(sections)
-    tail = ["The calls in code", "Sentences that no definition renders", "Names of the libraries", "Index"]
-    for n, title in enumerate(tail, after + 1):
-        page += [f"{n}. [{title}](#{anchor(f'{n}. {title}')})"]
-    page.append("")
-    page += body
+    return text.rstrip("\n").split("\n")
 
-    page += [f"## {after + 1}. {tail[0]}", ""]
-    page += wrapped("Not part of the statement, but what joins it to the library that is built: the contract of each C function, in which the definitions"
+
+def code_lines():
+    """The contracts of the calls, and the record that they are."""
+    module = Module("Gives", GIVES[0])
+    gives = module.declared[GIVES[1]]
+    lines = wrapped("Not part of the statement, but what joins it to the library that is built: the contract of each C function, in which the definitions"
                     " above are cited. `image .entry` is the buffer before the call and `image .exit` after it, `now` is what it holds, and r the number"
                     " that is returned. There is no `requires`: the contracts hold for all arguments.")
-    page += ["", "```"]
-    gives = Module("Gives", GIVES[0]).declared[GIVES[1]]
-    page += Module("Gives", GIVES[0]).opening + gives.comment + gives.code
+    lines += ["", "```", *module.opening, *gives.comment, *gives.code]
     for path, name, cites in CODE:
-        page += ["", f"// {path}", *contract(path, name, cites)]
-    page += ["```", "", f"## {after + 2}. {tail[1]}", ""]
-    page += wrapped("Of the six sections of document 01 that are quoted above, these sentences are rendered by no definition of demand 3:")
-    page.append("")
+        lines += ["", f"// {path}", *contract(path, name, cites)]
+    return lines + ["```"]
+
+
+def elsewhere_lines(reasons):
+    lines = wrapped("Of the six sections of document 01 that are quoted above, these sentences are rendered by no definition of demand 3:") + [""]
     for words, reason in reasons.values():
-        page += wrapped(f"\"{words.rstrip('.')}\": {reason}.", "- ", "  ")
-    page += ["", f"## {after + 3}. {tail[2]}", "", "| name | module | meaning |", "|---|---|---|"]
+        lines += wrapped(f"\"{words.rstrip('.')}\": {reason}.", "- ", "  ")
+    return lines
+
+
+def library_lines():
+    lines = ["| name | module | meaning |", "|---|---|---|"]
     for source, meanings in LIBRARY.items():
         module = source if source == "the language" else f"`{source}`"
-        page += [f"| `{name}` | {module} | {meaning} |".replace("`_||_`", "`_\\|\\|_`") for name, meaning in meanings.items()]
-    page += ["", f"## {after + 4}. {tail[3]}", "", "| definition | where | what it names |", "|---|---|---|"]
-    for definition in sorted(found, key=lambda d: (d.name.lower(), d.name)):
-        used = sorted((o.name for o in found[definition][0]), key=lambda name: (name.lower(), name))
-        number, title = where[definition]
-        page += [f"| `{definition.name}` | [{number}](#{anchor(title)}) | {', '.join(f'`{u}`' for u in used)} |"]
-    text = "\n".join(page) + "\n"
-    sys.stdout.write(text)
-    print(f"{len(found)} definitions, {lines} lines, {files} files; {len(names)} library names; {quoted} quotations in comments, all in document 01; "
-          f"{sentences} sentences of document 01: {len(RENDERED)} rendered, {len(reasons)} kept elsewhere; {len(crates)} crates proved, axioms=0",
-          file=sys.stderr)
+        lines += [f"| `{name}` | {module} | {meaning} |".replace("`_||_`", "`_\\|\\|_`") for name, meaning in meanings.items()]
+    return lines
+
+
+def main():
+    statement = module_of(f"Rattle.{CRATE}.specs.{STATEMENT[0]}", "reading.py").declared[STATEMENT[1]]
+    found = closure_of(statement)
+    if not re.search(rf"^pub {re.escape(PROOF[0])} : {STATEMENT[1]}$", read(PROOF[1]), re.M):
+        fail(f"{PROOF[1]} has no {PROOF[0]} : {STATEMENT[1]}")
+    reading = Reading(found)
+    quoted = quotations([(d.name, d.comment) for d in found] + [(module.path, module.opening) for _, _, _, module, _ in reading.sections])
+    body = reading.lines()
+    reasons = kept_elsewhere()
+    names = library_names(found)
+    verdicts, crates = proved()
+    values = {
+        "definitions": len(found),
+        "structs": sum(1 for d in found if d.kind == "struct"),
+        "lines": sum(1 for d in found for line in d.code if line.strip()),
+        "files": len({d.module.path for d in found}),
+        "names": len(names),
+        "quoted": quoted,
+        "sentences": sum(len(DOCUMENT[title]) for title in SECTIONS.values()),
+        "rendered": len(RENDERED),
+        "elsewhere": len(reasons),
+        "verdicts": "\n".join(f"{name}: {verdicts[name]}" for name in (CRATE, PROVED_IN)),
+        "between": ", ".join(f"`{c}`" for c in crates if c not in (CRATE, PROVED_IN)),
+    }
+    page = opening_of(values, (f"`{STATEMENT[1]}`", f"`{statement.module.path}`", f"`{PROOF[0]}` (`{PROOF[1]}`)"))
+    tail = [("The calls in code", code_lines()), ("Sentences that no definition renders", elsewhere_lines(reasons)),
+            ("Names of the libraries", library_lines()), ("Index", reading.index())]
+    page += ["", "## Contents", ""]
+    for number, _, title, _, groups in reading.sections:
+        count = sum(len(group[2]) for group in groups)
+        page.append(f"{number}. [{title}](#{anchor(f'{number}. {title}')}), {count} definition{'s' if count > 1 else ''}")
+    numbered = [(f"{n}. {title}", lines) for n, (title, lines) in enumerate(tail, len(reading.sections) + 1)]
+    page += [f"{title.split('. ')[0]}. [{title.split('. ')[1]}](#{anchor(title)})" for title, _ in numbered]
+    page += ["", *body]
+    for title, lines in numbered:
+        page += [f"## {title}", "", *lines, ""]
+    sys.stdout.write("\n".join(page).rstrip("\n") + "\n")
+    counts = ("{definitions} definitions, {lines} lines, {files} files; {names} library names; {quoted} quotations in comments, all in document 01; "
+              "{sentences} sentences of document 01: {rendered} rendered, {elsewhere} kept elsewhere").format(**values)
+    print(f"{counts}; {len(crates)} crates proved, axioms=0", file=sys.stderr)
 
 
 main()
