@@ -58,6 +58,14 @@ build_simulator() {
     flock -u 9
 }
 
+# build_comparison PROGRAM: a program of tests/compare, after build_simulator and static_library dispatcher and plan_probe. `comparison` is the one with the
+# library as it is, and "$comparison-faulty" the one that tests/compare/faults has put behind faults.
+comparison=target/compare/release/compare
+build_comparison() {
+    COMPARE_LIBRARY=$PWD/target/staticlib COMPARE_FAULTY=$PWD/target/compare/faulty cargo build --offline --locked --release -q \
+        --manifest-path tests/compare/Cargo.toml --target-dir target/compare --bin "$1" || die "tests/compare is not built"
+}
+
 # harness MODE ..: the simulator's harness on libdispatcher.a, after build_simulator and static_library dispatcher. No call is left to the simulator.
 harness() {
     env -u DISPATCHER_WITHOUT "$simulator/run-harness.sh" 0 "$PWD/target/staticlib" "$@"

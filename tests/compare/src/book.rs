@@ -1,0 +1,52 @@
+//! Demand 3: lists from a cabinet just opened, with the simulator's run book beside them. After every call the book is asked: each order out was so by its
+//! acceptance tick plus delay sum and by its due tick, each live order has the clock below both, the replies gave the book's tickets, ticks and margins, and 11
+//! and 12 came only where the book's sums are late. After every seventh call an advance is tried on a copy, which has to be done if an order is live.
+
+use crate::desk::{Clerk, Lender};
+use crate::{IMAGE, LEVEL};
+use second_simulator::calls::Call;
+use second_simulator::gen::{Maker, Profile, Step};
+use second_simulator::list::Runner;
+use second_simulator::rng::Rng;
+
+/// What the runner's image holds before the open.
+const NOISE: u8 = 0xa5;
+
+/// A list of so many calls by the simulator's maker.
+pub fn list(clerk: &Clerk, kind: usize, name: &str, seed: u64, calls: usize) {
+    let mut rng = Rng::new(seed);
+    let mut profile = Profile::random(&mut rng);
+    if calls > 1_000 {
+        // Orders of small costs with room to spare and other ranks: those that wait for long see hundreds of others come and go.
+        profile.cost = rng.pick(&[1, 2, 3, 5, 9]);
+        profile.rank = rng.pick(&[1, 5, 255]);
+        profile.room = rng.range(1, 2);
+    }
+    let n = rng.range(1, 8) as u32;
+    let mut maker = Maker { level: LEVEL, rng, profile };
+    let mut machine = clerk.clone();
+    clerk.0.borrow_mut().begin(kind, name, &[NOISE; IMAGE]);
+    let mut run = Runner::new(LEVEL, n, &mut machine).unwrap_or_else(|e| clerk.0.borrow().fail(&e));
+    for k in 0..calls {
+        let lent = maker.next(&run.image);
+        if let Err(e) = run.call(&lent) { clerk.0.borrow().fail(&format!("the run book: {e}")); }
+        if k % 7 == 0 {
+            clerk.0.borrow_mut().aside = true;
+            if let Err(e) = run.check_next() { clerk.0.borrow().fail(&format!("the run book: {e}")); }
+            clerk.0.borrow_mut().aside = false;
+        }
+    }
+    clerk.0.borrow_mut().counts.book.add(&run.counts);
+}
+
+/// Keeps the book beside a list that was written: one that begins with an open that is done, and has no other image and no other open that is done.
+pub fn replay(clerk: &Clerk, name: &str, steps: &[Step]) -> Option<Result<(), String>> {
+    let calls: Vec<_> = steps.iter().skip(1).map(|step| if let Step::Call(lent) = step { Some(lent) } else { None }).collect::<Option<_>>()?;
+    let opens = |call: &Call| if let Call::Open { stations: n @ 1..=8 } = call { Some(*n) } else { None };
+    let n = opens(&calls.first()?.call)?;
+    if calls[1..].iter().any(|lent| opens(&lent.call).is_some()) { return None; }
+    let mut machine = clerk.clone();
+    clerk.0.borrow_mut().begin(0, name, &[NOISE; IMAGE]);
+    let mut run = match Runner::new(LEVEL, n, &mut machine) { Ok(run) => run, Err(e) => return Some(Err(e)) };
+    Some(calls[1..].iter().try_for_each(|lent| run.call(lent).and_then(|_| run.check_next())))
+}

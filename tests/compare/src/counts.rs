@@ -1,0 +1,252 @@
+//! What a comparison has seen, so that one that shows too little can be told.
+
+use crate::IMAGE;
+use second_simulator::bytes::{get16, get32};
+use second_simulator::calls::Call;
+use second_simulator::image::{flaws, mark_and_version, Clause, CLOCK_END, MAX_LIVE};
+use second_simulator::list;
+use std::collections::BTreeMap;
+
+pub const CALLS: [&str; 4] = ["open", "quote", "offer", "advance"];
+/// The kinds of lists, by who makes them.
+pub const KINDS: [&str; 6] = ["book", "long-book", "sound", "limits", "damage", "lengths"];
+/// Numbers 0 to 14.
+const NUMBERS: usize = 15;
+
+/// Clauses of soundness at level 0, in the simulator's words.
+pub const CLAUSES: [(Clause, &str); 20] = [
+    (Clause::StationCount, "StationCount"), (Clause::LiveCount, "LiveCount"), (Clause::Clock, "Clock"), (Clause::ZeroBytes, "ZeroBytes"),
+    (Clause::UnusedRecords, "UnusedRecords"), (Clause::TicketLeast, "TicketLeast"), (Clause::TicketsRising, "TicketsRising"),
+    (Clause::TicketBelowNext, "TicketBelowNext"), (Clause::Acceptance, "Acceptance"), (Clause::DueLeast, "DueLeast"), (Clause::DueMost, "DueMost"),
+    (Clause::DueEnd, "DueEnd"), (Clause::Station, "Station"), (Clause::Cost, "Cost"), (Clause::MaximumLeast, "MaximumLeast"),
+    (Clause::MaximumMost, "MaximumMost"), (Clause::SumLeast, "SumLeast"), (Clause::OnTime, "OnTime"), (Clause::BeyondN, "BeyondN"),
+    (Clause::InService, "InService"),
+];
+
+/// Calls by live orders, 0 to 32.
+#[derive(Clone, Copy)]
+pub struct Live([u64; MAX_LIVE + 1]);
+
+impl Default for Live {
+    fn default() -> Live { Live([0; MAX_LIVE + 1]) }
+}
+
+#[derive(Clone, Default)]
+pub struct Counts {
+    /// calls by call and number
+    pub numbers: [[u64; NUMBERS]; 4],
+    /// calls that got as far as question 5, by call and live orders
+    pub live: [Live; 4],
+    /// starts, by N and station
+    pub starts: [[u64; 8]; 8],
+    /// orders out, by N
+    pub out: [u64; 8],
+    /// lists and their calls, by kind
+    pub lists: [u64; KINDS.len()],
+    pub calls: [u64; KINDS.len()],
+    /// images that lists began with: sound; of another length; of another mark or version; not sound
+    pub images: [u64; 4],
+    /// images that break one clause alone
+    pub alone: [u64; CLAUSES.len()],
+    /// what stands at an edge, by name
+    pub edges: BTreeMap<&'static str, u64>,
+    /// plan tables by what is printed
+    pub tables: BTreeMap<&'static str, u64>,
+    pub book: list::Counts,
+}
+
+fn place(call: &Call) -> usize {
+    match call {
+        Call::Open { .. } => 0,
+        Call::Quote { .. } => 1,
+        Call::Offer { .. } => 2,
+        _ => 3,
+    }
+}
+
+impl Counts {
+    pub fn total(&self) -> u64 { self.numbers.iter().flatten().sum() }
+
+    pub fn edge(&mut self, name: &'static str) { *self.edges.entry(name).or_default() += 1; }
+
+    /// An image that a list begins with.
+    pub fn image(&mut self, image: &[u8]) {
+        let kind = if image.len() != IMAGE { 1 } else if !mark_and_version(crate::LEVEL, image) { 2 } else {
+            let broken = flaws(crate::LEVEL, image);
+            if let [clause] = broken[..] { self.alone[CLAUSES.iter().position(|(c, _)| *c == clause).unwrap()] += 1; }
+            if broken.is_empty() { 0 } else { 3 }
+        };
+        self.images[kind] += 1;
+    }
+
+    /// A call that library and simulator agree on: the image before it, its number and its reply.
+    pub fn call(&mut self, kind: usize, call: &Call, before: &[u8], number: u32, reply: &[u8]) {
+        let c = place(call);
+        self.numbers[c][number as usize] += 1;
+        self.calls[kind] += 1;
+        if c == 0 || (1..=4).contains(&number) { return; }
+        self.live[c].0[usize::from(before[6])] += 1;
+        match call {
+            Call::Quote { order } | Call::Offer { order } => self.order(order, c == 2, before, number, reply),
+            _ => self.advance(before, number, reply),
+        }
+    }
+
+    fn order(&mut self, order: &[u8], offer: bool, before: &[u8], number: u32, reply: &[u8]) {
+        if number == 5 { return; }
+        let (n, clock, next) = (usize::from(before[5]), get32(before, 8), get32(before, 12));
+        let due_in = get32(order, 0);
+        let due = u64::from(clock) + if due_in == 0 { 18_000 } else { u64::from(due_in) };
+        let costs = || (0..n).map(|j| get16(order, 12 + 2 * j));
+        let margin = get32(reply, 12) as i32;
+        match number {
+            0 => {
+                if margin == 0 { self.edge("done, margin 0"); }
+                if margin == 1 { self.edge("done, margin 1"); }
+                if due == u64::from(CLOCK_END) { self.edge("done, due at the last tick"); }
+                if due_in == 60_000 { self.edge("done, due-in 60,000"); }
+                if due_in == 0 { self.edge("done, due-in 0"); }
+                if costs().any(|c| c == 6_000) { self.edge("done, cost 6,000"); }
+                if costs().all(|c| c == 1) { self.edge("done, costs 1"); }
+                if offer && next == u32::MAX { self.edge("done, last ticket"); }
+                if offer && before[6] == 31 { self.edge("done, 32 live after it"); }
+            }
+            6 if costs().any(|c| c == 0) => self.edge("6, cost 0"),
+            6 if costs().any(|c| c == 6_001) => self.edge("6, cost 6,001"),
+            6 if costs().all(|c| c <= 6_000) && (n..8).any(|j| order[4 + j] != 0) => self.edge("6, rank beyond N"),
+            6 if costs().all(|c| c <= 6_000) => self.edge("6, cost beyond N"),
+            7 if due_in == 60_001 => self.edge("7, due-in 60,001"),
+            8 if due == u64::from(CLOCK_END) + 1 => self.edge("8, due one tick too late"),
+            9 if before[6] == 32 => self.edge("9, and 32 live"),
+            11 if margin == -1 => self.edge("11, margin -1"),
+            12 if margin == -1 => self.edge("12, margin -1"),
+            _ => {}
+        }
+    }
+
+    fn advance(&mut self, before: &[u8], number: u32, reply: &[u8]) {
+        let (n, live, clock) = (usize::from(before[5]), usize::from(before[6]), get32(before, 8));
+        if number != 0 {
+            if live > 0 { self.edge("13, orders live"); }
+            return;
+        }
+        if clock == CLOCK_END - 1 { self.edge("done, last tick"); }
+        if get32(before, 12) == 0 { self.edge("done, no ticket left"); }
+        if get32(reply, 4) != 0 { self.out[n - 1] += 1; }
+        let mut leaving = 0;
+        for j in 0..n {
+            // Who waits at the station, best first: how many have the smallest rank, and whether the smallest ticket has it.
+            let serves = get32(before, 16 + 8 * j);
+            let (mut best, mut tied, mut first, mut cost) = (u16::from(u8::MAX) + 1, 0, 0, 0);
+            for k in 0..live {
+                let r = &before[80 + 64 * k..144 + 64 * k];
+                if usize::from(r[16]) != j + 1 || get32(r, 0) == serves { continue; }
+                let rank = u16::from(r[20 + j]);
+                if first == 0 { first = rank + 1; }
+                if rank < best { (best, tied, cost) = (rank, 1, get16(r, 28 + 2 * j)); } else if rank == best { tied += 1; }
+            }
+            let waiting = tied > 0;
+            if serves == 0 && waiting {
+                self.starts[n - 1][j] += 1;
+                if tied > 1 { self.edge("start, ranks tie"); }
+                if first > best + 1 { self.edge("start, by rank before a smaller ticket"); }
+                if cost == 1 { leaving += 1; }
+            }
+            if serves != 0 {
+                if get16(before, 20 + 8 * j) == 1 { leaving += 1; }
+                if waiting && (0..live).any(|k| get32(before, 80 + 64 * k) == serves && u16::from(before[80 + 64 * k + 20 + j]) > best) {
+                    self.edge("in service, a better rank waits");
+                }
+            }
+        }
+        if leaving > 1 { self.edge("two or more leave their stations"); }
+        if leaving == 8 { self.edge("all of eight leave their stations"); }
+        if live == 32 && get32(reply, 4) != 0 { self.edge("out, 32 live before it"); }
+    }
+
+    pub fn add(&mut self, o: &Counts) {
+        fn sum(a: &mut [u64], b: &[u64]) { for (x, y) in a.iter_mut().zip(b) { *x += y; } }
+        for c in 0..4 {
+            sum(&mut self.numbers[c], &o.numbers[c]);
+            sum(&mut self.live[c].0, &o.live[c].0);
+        }
+        for n in 0..8 { sum(&mut self.starts[n], &o.starts[n]); }
+        sum(&mut self.out, &o.out);
+        sum(&mut self.lists, &o.lists);
+        sum(&mut self.calls, &o.calls);
+        sum(&mut self.images, &o.images);
+        sum(&mut self.alone, &o.alone);
+        for (name, count) in &o.edges { *self.edges.entry(name).or_default() += count; }
+        for (name, count) in &o.tables { *self.tables.entry(name).or_default() += count; }
+        self.book.add(&o.book);
+    }
+
+    /// What was seen, one count a line: `CALL NUMBER: COUNT` and the like.
+    pub fn lines(&self) -> Vec<(String, u64)> {
+        let mut all = Vec::new();
+        let mut say = |name: String, count: u64| all.push((name, count));
+        for (c, call) in CALLS.iter().enumerate() {
+            for (number, count) in self.numbers[c].iter().enumerate() {
+                if *count > 0 { say(format!("{call} {number}"), *count); }
+            }
+        }
+        for (c, call) in CALLS.iter().enumerate().skip(1) {
+            for (live, count) in self.live[c].0.iter().enumerate() { say(format!("{call} with {live} live"), *count); }
+        }
+        for n in 0..8 {
+            for j in 0..=n { say(format!("start at station {} of {}", j + 1, n + 1), self.starts[n][j]); }
+            say(format!("out with {} stations", n + 1), self.out[n]);
+        }
+        for (k, kind) in KINDS.iter().enumerate() {
+            say(format!("lists of {kind}"), self.lists[k]);
+            say(format!("calls of {kind}"), self.calls[k]);
+        }
+        for (k, kind) in ["sound", "of another length", "of another mark or version", "not sound"].iter().enumerate() {
+            say(format!("images {kind}"), self.images[k]);
+        }
+        for (k, (_, clause)) in CLAUSES.iter().enumerate() { say(format!("alone {clause}"), self.alone[k]); }
+        for (name, count) in &self.edges { say(format!("edge {name}"), *count); }
+        for (name, count) in &self.tables { say(format!("table {name}"), *count); }
+        let b = &self.book;
+        for (name, count) in [
+            ("calls", b.calls), ("ticks", b.ticks), ("accepted", b.accepted), ("out", b.out), ("most live", b.most_live), ("largest company", b.largest_company),
+            ("out exactly at its sum", b.tight), ("out exactly at its sum, with company", b.tight_with_company),
+            ("out later than without the last maximum", b.later_than_less[0]), ("out later than without later company", b.later_than_less[1]),
+        ] {
+            say(format!("book {name}"), count);
+        }
+        all
+    }
+
+    /// The same for people, in few lines.
+    pub fn text(&self) -> String {
+        let mut text = String::new();
+        let mut line = |head: &str, items: Vec<String>| text.push_str(&format!("{head}: {}\n", items.join(", ")));
+        let total = self.total().max(1);
+        let share = |k: usize| format!("{} {} lists, {} calls ({} %)", KINDS[k], self.lists[k], self.calls[k], 100 * self.calls[k] / total);
+        line("lists", (0..KINDS.len()).map(share).collect());
+        for (c, call) in CALLS.iter().enumerate() {
+            let seen = self.numbers[c].iter().enumerate().filter(|(_, count)| **count > 0);
+            line(call, seen.map(|(number, count)| format!("{number}: {count}")).collect());
+        }
+        let by_live = |live: usize| format!("{live}: {}", (1..4).map(|c| self.live[c].0[live]).sum::<u64>());
+        line("calls by live orders", (0..=MAX_LIVE).map(by_live).collect());
+        line("images", vec![
+            format!("{} sound", self.images[0]), format!("{} not sound", self.images[3]), format!("{} of another length", self.images[1]),
+            format!("{} of another mark or version", self.images[2]),
+        ]);
+        line("one clause broken alone", (0..CLAUSES.len()).map(|k| format!("{} {}", CLAUSES[k].1, self.alone[k])).collect());
+        line("orders out by N", (0..8).map(|n| format!("{}: {}", n + 1, self.out[n])).collect());
+        let edges: Vec<String> = self.edges.iter().map(|(name, count)| format!("{name} {count}")).collect();
+        line("at an edge", vec![edges.join("; ")]);
+        line("plan tables", self.tables.iter().map(|(name, count)| format!("{name} {count}")).collect());
+        let b = &self.book;
+        line("run book", vec![
+            format!("{} calls", b.calls), format!("{} ticks", b.ticks), format!("{} accepted", b.accepted), format!("{} out", b.out),
+            format!("{} of these exactly at the sum with others in company", b.tight_with_company),
+            format!("{} and {} later than by a smaller sum", b.later_than_less[0], b.later_than_less[1]),
+            format!("largest company {}", b.largest_company), format!("most live {}", b.most_live),
+        ]);
+        text
+    }
+}

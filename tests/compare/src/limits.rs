@@ -1,0 +1,232 @@
+//! Sound images near every limit, each with an order that is aimed at an edge of on time: the newcomer's, or that of a live order which it delays.
+
+use crate::desk::{Desk, Sheet};
+use crate::{LEVEL, ORDER};
+use second_simulator::bytes::{put16, put32};
+use second_simulator::calls::Call;
+use second_simulator::gen::block;
+use second_simulator::image::{encode, Record, Service, State, CLOCK_END};
+use second_simulator::rng::Rng;
+
+/// An image, and an order that may be offered to it.
+pub struct Aim {
+    pub state: State,
+    ranks: [u8; 8],
+    costs: [u16; 8],
+    /// the delay sum that the order would have
+    sum: u64,
+}
+
+/// How the costs of a cabinet's orders look.
+fn cost(rng: &mut Rng, style: u64) -> u16 {
+    match style {
+        0 => 1,
+        1 => 6_000,
+        2 | 3 => rng.range(1, 3) as u16,
+        4 => rng.range(1, 40) as u16,
+        5 => rng.range(1, 6_000) as u16,
+        6 => rng.pick(&[1, 2, 5_999, 6_000]),
+        _ => rng.pick(&[1, 1, 1, 300]),
+    }
+}
+
+fn rank(rng: &mut Rng, style: u64) -> u8 {
+    match style {
+        0 => 7,
+        1 => rng.below(2) as u8,
+        2 => 254 + rng.below(2) as u8,
+        3 => rng.pick(&[0, 1, 127, 128, 255]),
+        _ => rng.next() as u8,
+    }
+}
+
+/// A step from one ticket to another, at most so large.
+fn gap(rng: &mut Rng, most: u32) -> u32 {
+    let most = most.min(rng.pick(&[1, 3, u32::MAX]));
+    rng.range(1, u64::from(most)) as u32
+}
+
+/// Tickets of so many live orders, rising, and the next ticket.
+fn tickets(rng: &mut Rng, live: usize) -> (Vec<u32>, u32) {
+    let count = live as u32;
+    let next = match rng.below(6) {
+        0 => 0,
+        1 => u32::MAX,
+        2 => u32::MAX - rng.below(3) as u32,
+        3 => count + 1,
+        4 => count + 1 + rng.below(40) as u32,
+        _ => rng.range(u64::from(count) + 1, u64::from(u32::MAX)) as u32,
+    };
+    let last = next.wrapping_sub(1);
+    let mut all: Vec<u32> = match rng.below(3) {
+        // the last that were given, the first ones, or a way between them
+        0 => (0..count).map(|k| last - k).collect(),
+        1 => (1..=count).collect(),
+        _ => {
+            let mut at = last;
+            let mut all = Vec::new();
+            for still in (0..count).rev() {
+                all.push(at);
+                if still > 0 { at -= gap(rng, at - still); }
+            }
+            all
+        }
+    };
+    all.sort_unstable();
+    (all, next)
+}
+
+pub fn aim(rng: &mut Rng) -> Aim {
+    let n = rng.pick(&[1, 1, 2, 3, 4, 5, 6, 7, 8, 8]);
+    let clock = match rng.below(12) {
+        0 => 0,
+        1 => rng.below(3) as u32,
+        2 => CLOCK_END,
+        3 => CLOCK_END - 1,
+        4 => CLOCK_END - rng.below(20) as u32,
+        5 => CLOCK_END - 60_000 + rng.below(3) as u32 - 1,
+        6 => CLOCK_END - 18_000 + rng.below(3) as u32 - 1,
+        7 => CLOCK_END - rng.below(70_000) as u32,
+        8 => rng.pick(&[65_535, 65_536, 0x7fff_ffff, 0x8000_0000, 0x8000_0000 - 60_000]),
+        _ => rng.range(0, u64::from(CLOCK_END)) as u32,
+    };
+    let live = match rng.below(8) { 0 => 0, 1 => 1, 2 => 2, 3 => 30, 4 => 31, 5 => 32, _ => rng.range(0, 32) as usize };
+    let (tickets, next_ticket) = tickets(rng, live);
+
+    let style = rng.below(8);
+    let own_style = if rng.one_in(3) { rng.below(8) } else { style };
+    let ranks_style = rng.below(5);
+    let mut ranks = [0; 8];
+    let mut costs = [0; 8];
+    for j in 0..n {
+        ranks[j] = rank(rng, ranks_style);
+        costs[j] = cost(rng, own_style);
+    }
+    let largest = u64::from(*costs.iter().max().unwrap());
+
+    // How near the live orders are to being late by the newcomer: one of them exactly on time or late by one, all of them near, or none.
+    let mode = rng.below(5);
+    let chosen = rng.below(live.max(1) as u64) as usize;
+    let mut records = Vec::new();
+    for (k, ticket) in tickets.into_iter().enumerate() {
+        let mut r = Record { ticket, station: rng.range(1, n as u64) as u8, ..Record::default() };
+        if rng.one_in(3) { r.station = rng.pick(&[1, n as u8]); }
+        for j in 0..n {
+            r.ranks[j] = rank(rng, ranks_style);
+            r.costs[j] = cost(rng, style);
+            let least = r.costs[j];
+            r.company_max[j] = match rng.below(6) {
+                0 | 1 => least,
+                2 => (least + 1).min(6_000),
+                3 => least.max(costs[j]),
+                4 => least.max(costs[j].saturating_sub(1)),
+                _ => rng.range(u64::from(least), 6_000) as u16,
+            };
+        }
+        r.company_sum = r.largest_cost();
+        // What the newcomer would add to its sum, and the room that it is given for that.
+        let added = |r: &Record| largest + (0..n - 1).map(|j| u64::from(costs[j].saturating_sub(r.company_max[j]))).sum::<u64>();
+        if r.delay(n) + added(&r) > 60_000 { r.company_max = r.costs; }
+        let added = added(&r);
+        let room = match mode {
+            0 | 1 if k == chosen => added - u64::from(mode == 1),
+            0 | 1 => added + rng.pick(&[0, 1, 5, 500]),
+            2 => rng.pick(&[0, 1, added - 1, added, added + 1, added + 40]),
+            _ => 60_000,
+        };
+        let free = 60_000 - r.delay(n);
+        if mode < 3 || rng.one_in(3) {
+            // Others that are out stand in its company.
+            let more = free.saturating_sub(room);
+            r.company_sum += match rng.below(4) { 0 => 0, 1 => more, 2 => more.min(rng.below(9)), _ => rng.range(0, more) } as u32;
+        }
+        let due_in = (r.delay(n) + room).clamp(1, 60_000);
+        let latest = u64::from(clock).min(u64::from(CLOCK_END) - due_in);
+        r.accepted = match rng.below(5) {
+            0 | 1 => latest,
+            2 => latest.saturating_sub(rng.below(5)),
+            3 => latest.saturating_sub(rng.below(60_000)),
+            _ => rng.range(0, latest),
+        } as u32;
+        r.due = r.accepted + due_in as u32;
+        records.push(r);
+    }
+
+    let mut state = State { n, clock, next_ticket, stations: [Service::default(); 8], live: records };
+    for j in 0..n {
+        let here: Vec<&Record> = state.live.iter().filter(|r| usize::from(r.station) == j + 1).collect();
+        if here.is_empty() || rng.one_in(3) { continue; }
+        let r = here[rng.below(here.len() as u64) as usize];
+        let to_go = match rng.below(4) { 0 | 1 => 1, 2 => r.costs[j], _ => rng.range(1, u64::from(r.costs[j])) as u16 };
+        state.stations[j] = Service { ticket: r.ticket, to_go };
+    }
+    let sum = largest
+        + state.live.iter().map(|r| u64::from(r.largest_cost())).sum::<u64>()
+        + (0..n - 1).map(|j| u64::from(state.live.iter().map(|r| r.costs[j]).chain([costs[j]]).max().unwrap())).sum::<u64>();
+    Aim { state, ranks, costs, sum }
+}
+
+impl Aim {
+    fn block(&self, due_in: u64) -> Vec<u8> {
+        let n = self.state.n;
+        block(LEVEL, due_in as u32, &self.ranks[..n], &self.costs[..n], 0)
+    }
+
+    /// The order, with a due-in at an edge.
+    pub fn order(&self, rng: &mut Rng) -> Vec<u8> {
+        let end = u64::from(CLOCK_END - self.state.clock);
+        let due_in = match rng.below(12) {
+            0 => self.sum - 1,
+            1 => self.sum,
+            2 => self.sum + 1,
+            3 => 0,
+            4 => end,
+            5 => end + 1,
+            6 => rng.pick(&[1, 17_999, 18_000, 59_999, 60_001, 65_536]),
+            _ => 60_000,
+        };
+        let due_in = if due_in > 60_001 && !rng.one_in(20) { 60_000 } else { due_in };
+        self.block(due_in)
+    }
+
+    /// The order with one thing at a limit or beyond it.
+    pub fn odd_order(&self, rng: &mut Rng) -> Vec<u8> {
+        let mut b = self.block(60_000);
+        let n = self.state.n;
+        let j = rng.below(n as u64) as usize;
+        match rng.below(8) {
+            0 => put16(&mut b, 12 + 2 * j, 0),
+            1 => put16(&mut b, 12 + 2 * j, rng.pick(&[1, 5_999, 6_000])),
+            2 => put16(&mut b, 12 + 2 * j, rng.pick(&[6_001, 0x8000, 0xffff, 6_000 + 256])),
+            3 if n < 8 => b[4 + rng.range(n as u64, 7) as usize] = rng.pick(&[1, 128, 255]),
+            4 if n < 8 => put16(&mut b, 12 + 2 * rng.range(n as u64, 7) as usize, rng.pick(&[1, 256, 6_000, 0x8000])),
+            5 => put32(&mut b, 0, rng.pick(&[60_001, 60_000, 65_536, 0x8000_0000, u32::MAX, 0x0001_ea60])),
+            6 => b[4 + j] = rng.pick(&[0, 1, 254, 255]),
+            _ => b = rng.bytes(ORDER),
+        }
+        b
+    }
+}
+
+/// Some 400 calls on 20 such images.
+pub fn unit(desk: &mut Desk, kind: usize, name: &str, seed: u64) {
+    let mut rng = Rng::new(seed);
+    for _ in 0..20 {
+        let aim = aim(&mut rng);
+        let image = encode(LEVEL, &aim.state);
+        let mut sheet = Sheet::new(desk, kind, name, image);
+        for k in 0..20 {
+            // At first the aimed order, while the image is the one that it was aimed at.
+            let call = match if k < 4 { rng.below(6) } else { rng.below(16) } {
+                0 | 1 => Call::Quote { order: aim.order(&mut rng) },
+                2 | 3 => Call::Offer { order: aim.order(&mut rng) },
+                4 => Call::Quote { order: aim.odd_order(&mut rng) },
+                5 => Call::Offer { order: aim.odd_order(&mut rng) },
+                _ => Call::Advance,
+            };
+            let length = if rng.one_in(40) { rng.pick(&[0, 15, 17]) } else { 16 };
+            let reply = rng.bytes(length);
+            sheet.call(&call, reply);
+        }
+    }
+}

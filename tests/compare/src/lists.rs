@@ -1,0 +1,58 @@
+//! Lists that begin with a sound image made by hand, by the simulator's makers, and calls with buffers of every length.
+
+use crate::desk::{Desk, Sheet};
+use crate::{limits, IMAGE, LEVEL};
+use second_simulator::calls::Call;
+use second_simulator::gen::{sound_state, Maker, Profile};
+use second_simulator::image::encode;
+use second_simulator::rng::Rng;
+
+/// Some 400 calls in lists of 10 to 200, each from a sound image that no run need lead to.
+pub fn sound(desk: &mut Desk, kind: usize, name: &str, seed: u64) {
+    let mut rng = Rng::new(seed);
+    let mut left = 400;
+    while left > 0 {
+        let calls = rng.pick(&[10, 20, 50, 200]).min(left);
+        left -= calls;
+        let profile = Profile::random(&mut rng);
+        let image = encode(LEVEL, &sound_state(LEVEL, &mut rng));
+        let mut maker = Maker { level: LEVEL, rng: rng.clone(), profile };
+        rng.next();
+        let mut sheet = Sheet::new(desk, kind, name, image);
+        for _ in 0..calls {
+            let mut lent = maker.next(&sheet.image);
+            // An open of any N may stand in these lists.
+            if maker.rng.one_in(300) { lent.call = Call::Open { stations: maker.rng.range(0, 10) as u32 }; }
+            sheet.call(&lent.call, lent.reply);
+        }
+    }
+}
+
+/// Every call with images, order blocks and replies of right and wrong lengths: which question is asked first, and that nothing is touched.
+pub fn lengths(desk: &mut Desk, kind: usize, name: &str, seed: u64) {
+    let mut rng = Rng::new(seed);
+    for _ in 0..70 {
+        let aim = limits::aim(&mut rng);
+        let mut image = encode(LEVEL, &aim.state);
+        let length = rng.pick(&[0, 1, 2, 4, 5, 8, 15, 16, 79, 80, 2064, 2120, IMAGE - 1, IMAGE, IMAGE, IMAGE, IMAGE + 1, IMAGE + 64, 3152, 4000]);
+        image.resize(length, 0);
+        if rng.one_in(4) { image = rng.bytes(length); }
+        let mut sheet = Sheet::new(desk, kind, name, image);
+        for _ in 0..5 {
+            let mut order = aim.order(&mut rng);
+            if rng.one_in(2) {
+                let length = rng.pick(&[0, 1, 4, 12, 26, 27, 29, 30, 32, 56, 280, 1000]);
+                order.resize(length, 0);
+            }
+            let reply_length = rng.pick(&[0, 1, 4, 15, 16, 16, 16, 17, 32, 64]);
+            let call = match rng.below(4) {
+                0 => Call::Open { stations: rng.pick(&[0, 1, 2, 3, 4, 5, 6, 7, 8, 9, 255, 256, 257, 264, 65_537, 0x8000_0001, u32::MAX]) },
+                1 => Call::Quote { order },
+                2 => Call::Offer { order },
+                _ => Call::Advance,
+            };
+            let reply = rng.bytes(reply_length);
+            sheet.call(&call, reply);
+        }
+    }
+}
