@@ -62,11 +62,16 @@ build_simulator() {
 # library as it is, and "$comparison-faulty" the one that tests/compare/faults has put behind faults.
 comparison=target/compare/release/compare
 build_comparison() {
+    # Nobody copies the simulator meanwhile.
+    exec 9> target/second-simulator.lock
+    flock 9
     COMPARE_LIBRARY=$PWD/target/staticlib COMPARE_FAULTY=$PWD/target/compare/faulty cargo build --offline --locked --release -q \
         --manifest-path tests/compare/Cargo.toml --target-dir target/compare --bin "$1" || die "tests/compare is not built"
+    flock -u 9
 }
 
 # harness MODE ..: the simulator's harness on libdispatcher.a, after build_simulator and static_library dispatcher. No call is left to the simulator.
 harness() {
-    env -u DISPATCHER_WITHOUT "$simulator/run-harness.sh" 0 "$PWD/target/staticlib" "$@"
+    # It is built first, and nobody copies the simulator meanwhile.
+    flock target/second-simulator.lock env -u DISPATCHER_WITHOUT "$simulator/run-harness.sh" 0 "$PWD/target/staticlib" "$@"
 }

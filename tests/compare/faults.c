@@ -144,6 +144,12 @@ static int overlooked(uint8_t *image)
                 return 1;
             }
         return 0;
+    case 64: /* the last cost of all, at station 8 of record 32, may be 0 */
+        if (n == 8 && live == 32 && get2(last + 42) == 0) {
+            put2(last + 42, 1);
+            return 1;
+        }
+        return 0;
     default:
         return 0;
     }
@@ -294,6 +300,18 @@ static uint32_t ordered(int offer, uint8_t *image, size_t image_len, const uint8
         if (accepted)
             ((uint8_t *)(uintptr_t)order)[-1] = 0;
         break;
+    case 65: /* question 8 is asked before question 7 */
+        if (number == 7 && (uint64_t)clock + due_in > DISPATCHER_LAST_TICK)
+            number = declined(8, reply);
+        break;
+    case 66: /* question 9 is asked before question 8 */
+        if (number == 8 && next == 0)
+            number = declined(9, reply);
+        break;
+    case 67: /* a due tick of more than 31 bits is too far, while the clock has less */
+        if ((number == 0 || number == 11 || number == 12) && clock < 0x80000000 && clock + due_in >= 0x80000000)
+            number = declined(8, reply), accepted = 0;
+        break;
     case 37: /* question 5 is asked before question 4 */
         if (number == 4 && order_len != ORDER)
             number = declined(5, reply);
@@ -344,6 +362,19 @@ static uint8_t *first_of_tied(uint8_t *image, unsigned station)
     return NULL;
 }
 
+/* An advance in which that order lets another go first. */
+static uint32_t passed_over(uint8_t *trial, unsigned station, uint8_t *order, uint8_t *image, uint8_t *reply)
+{
+    uint32_t ticket = get4(order);
+    order[19 + station]++;
+    right_advance(trial, IMAGE, reply, REPLY);
+    for (unsigned k = 0; k < trial[6]; k++)
+        if (get4(record(trial, k)) == ticket)
+            record(trial, k)[19 + station]--;
+    memcpy(image, trial, IMAGE);
+    return 0;
+}
+
 uint32_t dispatcher_advance(uint8_t *image, size_t image_len, uint8_t *reply, size_t reply_len)
 {
     uint8_t before[IMAGE], trial[IMAGE];
@@ -369,16 +400,16 @@ uint32_t dispatcher_advance(uint8_t *image, size_t image_len, uint8_t *reply, si
             return declined(13, reply);
         break;
     case 42: /* equal ranks go by the larger ticket at station 2 */
-        if ((tied = first_of_tied(trial, 2)) != NULL) {
-            uint32_t ticket = get4(tied);
-            tied[21]++;
-            right_advance(trial, IMAGE, reply, REPLY);
-            for (unsigned k = 0; k < trial[6]; k++)
-                if (get4(record(trial, k)) == ticket)
-                    record(trial, k)[21]--;
-            memcpy(image, trial, IMAGE);
-            return 0;
-        }
+        if ((tied = first_of_tied(trial, 2)) != NULL)
+            return passed_over(trial, 2, tied, image, reply);
+        break;
+    case 68: /* equal ranks go by the larger ticket at station 8 */
+        if ((tied = first_of_tied(trial, 8)) != NULL)
+            return passed_over(trial, 8, tied, image, reply);
+        break;
+    case 69: /* equal ranks go by the ticket as a signed number */
+        if ((tied = first_of_tied(trial, 1)) != NULL && get4(tied) < 0x80000000 && get4(record(trial, trial[6] - 1u)) >= 0x80000000)
+            return passed_over(trial, 1, tied, image, reply);
         break;
     case 43: /* a better rank stops the order in service */
         for (unsigned j = 1; j <= n; j++)
@@ -399,6 +430,8 @@ uint32_t dispatcher_advance(uint8_t *image, size_t image_len, uint8_t *reply, si
     if ((number == 3 || number == 4) && overlooked(trial))
         number = right_advance(trial, IMAGE, reply, REPLY);
     uint32_t out = get4(reply + 4);
+    if (fault() == 70 && number == 4 && get4(image + 8) == DISPATCHER_LAST_TICK) /* question 13 is asked before question 4 */
+        number = declined(13, reply);
     if (fault() == 52 && number == 13 && before[6] != 0) /* 13 comes only while no order is live */
         number = declined(0, reply);
     switch (number == 0 ? fault() : 0) {
@@ -407,7 +440,7 @@ uint32_t dispatcher_advance(uint8_t *image, size_t image_len, uint8_t *reply, si
             for (unsigned j = 0; j < n; j++)
                 record(trial, k)[20 + j] ^= 0x80;
         break;
-    case 45: /* no start at station 8 while all eight have an order */
+    case 45: /* no start at station 8 while station 1 serves */
         if (n == 8 && get4(entry(before, 8)) == 0 && get4(entry(trial, 8)) != 0 && get4(entry(before, 1)) != 0)
             memset(entry(trial, 8), 0, 8);
         break;
@@ -501,6 +534,11 @@ size_t plan_probe_text(const uint8_t *input, size_t input_len, uint8_t *out)
         memcpy(out, "refused 15\n", 11);
         length = 11;
     }
+    for (size_t at = 0; fault() == 71 && table && at + 10 < length; at++) /* a response of ten digits loses the first */
+        if (strspn((const char *)out + at, "0123456789") == 10) {
+            memmove(out + at, out + at + 1, length - at - 1);
+            length--;
+        }
     if (fault() == 63 && input_len > 0) { /* a byte behind plan's input is read */
         volatile uint8_t behind = input[input_len];
         (void)behind;

@@ -2,6 +2,7 @@
 //! acceptance tick plus delay sum and by its due tick, each live order has the clock below both, the replies gave the book's tickets, ticks and margins, and 11
 //! and 12 came only where the book's sums are late. After every seventh call an advance is tried on a copy, which has to be done if an order is live.
 
+use crate::counts::Kind;
 use crate::desk::{Clerk, Lender};
 use crate::{IMAGE, LEVEL};
 use second_simulator::calls::Call;
@@ -13,10 +14,10 @@ use second_simulator::rng::Rng;
 const NOISE: u8 = 0xa5;
 
 /// A list of so many calls by the simulator's maker.
-pub fn list(clerk: &Clerk, kind: usize, name: &str, seed: u64, calls: usize) {
+pub fn list(clerk: &Clerk, kind: Kind, name: &str, seed: u64, calls: usize) {
     let mut rng = Rng::new(seed);
     let mut profile = Profile::random(&mut rng);
-    if calls > 1_000 {
+    if matches!(kind, Kind::LongBook) {
         // Orders of small costs with room to spare and other ranks: those that wait for long see hundreds of others come and go.
         profile.cost = rng.pick(&[1, 2, 3, 5, 9]);
         profile.rank = rng.pick(&[1, 5, 255]);
@@ -46,7 +47,7 @@ pub fn replay(clerk: &Clerk, name: &str, steps: &[Step]) -> Option<Result<(), St
     let n = opens(&calls.first()?.call)?;
     if calls[1..].iter().any(|lent| opens(&lent.call).is_some()) { return None; }
     let mut machine = clerk.clone();
-    clerk.0.borrow_mut().begin(0, name, &[NOISE; IMAGE]);
+    clerk.0.borrow_mut().begin(Kind::Book, name, &[NOISE; IMAGE]);
     let mut run = match Runner::new(LEVEL, n, &mut machine) { Ok(run) => run, Err(e) => return Some(Err(e)) };
     Some(calls[1..].iter().try_for_each(|lent| run.call(lent).and_then(|_| run.check_next())))
 }

@@ -1,6 +1,6 @@
 //! The command line: which lists are made, how many, by how many threads, and what is said of them.
 
-use crate::counts::Counts;
+use crate::counts::{Counts, Kind};
 use crate::desk::{touched, Clerk, Desk, Library};
 use crate::plan::Tables;
 use crate::{book, damage, lent, limits, lists, LEVEL};
@@ -16,14 +16,14 @@ use std::rc::Rc;
 use std::sync::atomic::{AtomicU64, Ordering::Relaxed};
 use std::time::{Duration, Instant, SystemTime};
 
-const USAGE: &str = "usage: compare [--calls COUNT] [--seed SEED] [--jobs JOBS] [--from UNIT] [--folder FOLDER] [--counts FILE]
+const USAGE: &str = "usage: compare [--calls COUNT] [--seed SEED] [--jobs JOBS] [--from UNIT] [--folder FOLDER] [--counts FILE] [--book-alone]
        compare replay FILE..";
 
-struct Arguments { calls: u64, seed: Option<u64>, jobs: u64, from: u64, folder: PathBuf, counts: Option<PathBuf>, replay: bool, files: Vec<PathBuf> }
+struct Arguments { calls: u64, seed: Option<u64>, jobs: u64, from: u64, folder: PathBuf, counts: Option<PathBuf>, book_alone: bool, replay: bool, files: Vec<PathBuf> }
 
 fn arguments() -> Option<Arguments> {
     let mut a = Arguments {
-        calls: 100_000_000, seed: None, jobs: 2, from: 0, folder: PathBuf::from("."), counts: None, replay: false, files: Vec::new(),
+        calls: 100_000_000, seed: None, jobs: 2, from: 0, folder: PathBuf::from("."), counts: None, book_alone: false, replay: false, files: Vec::new(),
     };
     let mut words = std::env::args().skip(1).peekable();
     if words.peek().map(String::as_str) == Some("replay") {
@@ -38,6 +38,7 @@ fn arguments() -> Option<Arguments> {
             "--from" => a.from = words.next()?.parse().ok()?,
             "--folder" => a.folder = words.next()?.into(),
             "--counts" => a.counts = Some(words.next()?.into()),
+            "--book-alone" => a.book_alone = true,
             file if a.replay && !file.starts_with('-') => a.files.push(file.into()),
             _ => return None,
         }
@@ -45,23 +46,44 @@ fn arguments() -> Option<Arguments> {
     Some(a)
 }
 
-/// A unit is one list of some 400 calls or some short ones, and a plan table. It is made of the seed and its number alone, so that any unit can be made again.
-/// Of 20 units, 10 are lists of the run book, and one of 400 units is such a list of 10,000 calls.
+/// Units of one round, by kind: 20 of some 400 calls each.
+const ROUND: [(Kind, u64); 5] = [(Kind::Book, 10), (Kind::Sound, 3), (Kind::Limits, 4), (Kind::Damage, 2), (Kind::Lengths, 1)];
+/// The first list of every so many rounds is a long one.
+const LONG: u64 = 20;
+
+/// A unit is one list of some 400 calls, or shorter ones that together have as many, and a plan table. It is made of the seed and its number alone, so that any
+/// unit can be made again.
 fn unit(clerk: &Clerk, tables: &mut Tables, seed: u64, number: u64) {
     let mut rng = Rng::new(seed ^ number.wrapping_mul(0xd6e8_feb8_6659_fd93));
     let made = rng.next();
     let name = |kind: &str| format!("seed {seed}, unit {number} ({kind})");
     let table = tables.one(&name("plan"), rng.next());
     *clerk.0.borrow_mut().counts.tables.entry(table).or_default() += 1;
-    let desk = || clerk.0.borrow_mut();
-    match number % 20 {
-        0 if number % 400 == 0 => book::list(clerk, 1, &name("long-book"), made, 10_000),
-        0..=9 => book::list(clerk, 0, &name("book"), made, 400),
-        10..=12 => lists::sound(&mut desk(), 2, &name("sound"), made),
-        13..=16 => limits::unit(&mut desk(), 3, &name("limits"), made),
-        17 | 18 => damage::unit(&mut desk(), 4, &name("damage"), made),
-        _ => lists::lengths(&mut desk(), 5, &name("lengths"), made),
+
+    let units: u64 = ROUND.iter().map(|(_, count)| count).sum();
+    let (round, mut place) = (number / units, number % units);
+    let (mut kind, mut count) = ROUND[0];
+    for (k, c) in ROUND {
+        (kind, count) = (k, c);
+        if place < c { break; }
+        place -= c;
     }
+    if number % (units * LONG) == 0 { kind = Kind::LongBook; }
+    let name = name(kind.name());
+    match kind {
+        Kind::Book => book::list(clerk, kind, &name, made, 400),
+        Kind::LongBook => book::list(clerk, kind, &name, made, 10_000),
+        Kind::Sound => lists::sound(&mut clerk.0.borrow_mut(), &name, made),
+        Kind::Limits => limits::unit(&mut clerk.0.borrow_mut(), &name, made),
+        Kind::Damage => damage::unit(&mut clerk.0.borrow_mut(), &name, made, round * count + place),
+        Kind::Lengths => lists::lengths(&mut clerk.0.borrow_mut(), &name, made),
+    }
+}
+
+/// A list of the run book with the simulator left out, for a test of that checker.
+fn book_alone(clerk: &Clerk, seed: u64, number: u64) {
+    let made = Rng::new(seed ^ number.wrapping_mul(0xd6e8_feb8_6659_fd93)).next();
+    book::list(clerk, Kind::Book, &format!("seed {seed}, list {number} (the run book alone)"), made, 400);
 }
 
 fn compare(library: Library, a: &Arguments) -> ExitCode {
@@ -71,11 +93,12 @@ fn compare(library: Library, a: &Arguments) -> ExitCode {
     let began = Instant::now();
     let (next, made, ended) = (AtomicU64::new(a.from), AtomicU64::new(0), AtomicU64::new(0));
     let work = || {
-        let clerk = Clerk(Rc::new(RefCell::new(Desk::new(library, Some(&a.folder)))));
+        let clerk = Clerk(Rc::new(RefCell::new(Desk::new(library, Some(&a.folder), a.book_alone))));
         let mut tables = Tables::new(library, &a.folder);
         let mut before = 0;
         while made.load(Relaxed) < a.calls {
-            unit(&clerk, &mut tables, seed, next.fetch_add(1, Relaxed));
+            let number = next.fetch_add(1, Relaxed);
+            if a.book_alone { book_alone(&clerk, seed, number); } else { unit(&clerk, &mut tables, seed, number); }
             let now = clerk.0.borrow().counts.total();
             made.fetch_add(now - before, Relaxed);
             before = now;
@@ -111,6 +134,10 @@ fn compare(library: Library, a: &Arguments) -> ExitCode {
         println!("stopped by an error of the comparison or of the simulator (above); the last unit that was begun is {} of seed {seed}", next.load(Relaxed) - 1);
         return ExitCode::FAILURE;
     };
+    if a.book_alone {
+        println!("seed {seed}: {} calls agree with the run book alone", all.total());
+        return ExitCode::SUCCESS;
+    }
     print!("{}", all.text());
     if let Some(file) = &a.counts {
         let text: String = all.lines().iter().map(|(name, count)| format!("{name}: {count}\n")).collect();
@@ -153,7 +180,7 @@ fn replay(library: Library, a: &Arguments) -> ExitCode {
             println!("{name} is no list of calls");
             return ExitCode::FAILURE;
         };
-        let mut clerk = Clerk(Rc::new(RefCell::new(Desk::new(library, None))));
+        let mut clerk = Clerk(Rc::new(RefCell::new(Desk::new(library, None, false))));
         let mut image = Vec::new();
         let calls = steps.iter().filter(|step| matches!(step, Step::Call(_))).count();
         // Once for every place of the buffers that the first call has.
@@ -163,7 +190,7 @@ fn replay(library: Library, a: &Arguments) -> ExitCode {
                 match step {
                     Step::Image(i) => {
                         image.clone_from(i);
-                        clerk.0.borrow_mut().begin(0, &name, &image);
+                        clerk.0.borrow_mut().begin(Kind::Book, &name, &image);
                     }
                     Step::Call(lent) => { clerk.call(&lent.call, &mut image, &mut lent.reply.clone()); }
                 }

@@ -8,8 +8,15 @@ use second_simulator::list;
 use std::collections::BTreeMap;
 
 pub const CALLS: [&str; 4] = ["open", "quote", "offer", "advance"];
-/// The kinds of lists, by who makes them.
-pub const KINDS: [&str; 6] = ["book", "long-book", "sound", "limits", "damage", "lengths"];
+/// The kinds of lists, by who makes them, and their names.
+#[derive(Clone, Copy)]
+pub enum Kind { Book, LongBook, Sound, Limits, Damage, Lengths }
+const KINDS: [&str; 6] = ["book", "long-book", "sound", "limits", "damage", "lengths"];
+
+impl Kind {
+    pub fn name(self) -> &'static str { KINDS[self as usize] }
+}
+
 /// Numbers 0 to 14.
 const NUMBERS: usize = 15;
 
@@ -48,6 +55,8 @@ pub struct Counts {
     pub images: [u64; 4],
     /// images that break one clause alone
     pub alone: [u64; CLAUSES.len()],
+    /// by byte of the image: images that differ from a sound one in this byte
+    pub bytes: Vec<u64>,
     /// what stands at an edge, by name
     pub edges: BTreeMap<&'static str, u64>,
     /// plan tables by what is printed
@@ -65,7 +74,7 @@ fn place(call: &Call) -> usize {
 }
 
 impl Counts {
-    pub fn total(&self) -> u64 { self.numbers.iter().flatten().sum() }
+    pub fn total(&self) -> u64 { self.calls.iter().sum() }
 
     pub fn edge(&mut self, name: &'static str) { *self.edges.entry(name).or_default() += 1; }
 
@@ -79,11 +88,20 @@ impl Counts {
         self.images[kind] += 1;
     }
 
+    /// A damaged image and the sound one that it was.
+    pub fn hurt(&mut self, sound: &[u8], damaged: &[u8]) {
+        self.bytes.resize(IMAGE, 0);
+        for (count, (a, b)) in self.bytes.iter_mut().zip(sound.iter().zip(damaged)) { *count += u64::from(a != b); }
+    }
+
+    /// How often the byte was damaged that was so least often.
+    fn least_hurt(&self) -> u64 { self.bytes.iter().copied().min().unwrap_or(0) }
+
     /// A call that library and simulator agree on: the image before it, its number and its reply.
-    pub fn call(&mut self, kind: usize, call: &Call, before: &[u8], number: u32, reply: &[u8]) {
+    pub fn call(&mut self, kind: Kind, call: &Call, before: &[u8], number: u32, reply: &[u8]) {
         let c = place(call);
         self.numbers[c][number as usize] += 1;
-        self.calls[kind] += 1;
+        self.calls[kind as usize] += 1;
         if c == 0 || (1..=4).contains(&number) { return; }
         self.live[c].0[usize::from(before[6])] += 1;
         match call {
@@ -176,6 +194,7 @@ impl Counts {
         sum(&mut self.calls, &o.calls);
         sum(&mut self.images, &o.images);
         sum(&mut self.alone, &o.alone);
+        if self.bytes.is_empty() { self.bytes.clone_from(&o.bytes); } else { sum(&mut self.bytes, &o.bytes); }
         for (name, count) in &o.edges { *self.edges.entry(name).or_default() += count; }
         for (name, count) in &o.tables { *self.tables.entry(name).or_default() += count; }
         self.book.add(&o.book);
@@ -205,6 +224,7 @@ impl Counts {
             say(format!("images {kind}"), self.images[k]);
         }
         for (k, (_, clause)) in CLAUSES.iter().enumerate() { say(format!("alone {clause}"), self.alone[k]); }
+        say("least damages of a byte".to_string(), self.least_hurt());
         for (name, count) in &self.edges { say(format!("edge {name}"), *count); }
         for (name, count) in &self.tables { say(format!("table {name}"), *count); }
         let b = &self.book;
@@ -233,7 +253,7 @@ impl Counts {
         line("calls by live orders", (0..=MAX_LIVE).map(by_live).collect());
         line("images", vec![
             format!("{} sound", self.images[0]), format!("{} not sound", self.images[3]), format!("{} of another length", self.images[1]),
-            format!("{} of another mark or version", self.images[2]),
+            format!("{} of another mark or version", self.images[2]), format!("each byte damaged in {} at least", self.least_hurt()),
         ]);
         line("one clause broken alone", (0..CLAUSES.len()).map(|k| format!("{} {}", CLAUSES[k].1, self.alone[k])).collect());
         line("orders out by N", (0..8).map(|n| format!("{}: {}", n + 1, self.out[n])).collect());

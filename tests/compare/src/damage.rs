@@ -1,5 +1,6 @@
 //! Damaged images: one field at a limit or just beyond it, one bit flipped, or two of these; and the simulator's own list of damages, clause by clause.
 
+use crate::counts::Kind;
 use crate::desk::{Desk, Sheet};
 use crate::{limits, IMAGE, LEVEL};
 use second_simulator::bytes::{get16, get32, put16, put32};
@@ -82,15 +83,15 @@ fn move_due(rng: &mut Rng, state: &State, image: &mut [u8]) {
 
 fn hurt(rng: &mut Rng, state: &State, image: &mut [u8]) {
     match rng.below(8) {
-        0 | 1 => image[rng.below(IMAGE as u64) as usize] ^= 1 << rng.below(8),
-        2 => image[rng.below(5) as usize] ^= 1 << rng.below(8),
-        3 => move_due(rng, state, image),
+        0 => image[rng.below(IMAGE as u64) as usize] ^= 1 << rng.below(8),
+        1 => image[rng.below(5) as usize] ^= 1 << rng.below(8),
+        2 => move_due(rng, state, image),
         _ => { let f = field(rng, state.live.len()); push(rng, image, f) }
     }
 }
 
 /// Quote, advance and offer on an image. The order fits in three images of four; in the others a later question has a "no" as well. Some replies do not fit.
-fn probe(desk: &mut Desk, kind: usize, name: &str, image: Vec<u8>, rng: &mut Rng) {
+fn probe(desk: &mut Desk, name: &str, image: Vec<u8>, rng: &mut Rng) {
     let n = usize::from(image[5]).clamp(1, 8);
     let mut order = block(LEVEL, 60_000, &vec![1; n], &vec![1; n], 0);
     match rng.below(12) {
@@ -99,7 +100,7 @@ fn probe(desk: &mut Desk, kind: usize, name: &str, image: Vec<u8>, rng: &mut Rng
         2 => put32(&mut order, 0, 60_001),
         _ => {}
     }
-    let mut sheet = Sheet::new(desk, kind, name, image);
+    let mut sheet = Sheet::new(desk, Kind::Damage, name, image);
     let first = Call::Quote { order: order.clone() };
     for call in [first, Call::Advance, Call::Offer { order }] {
         let length = if rng.one_in(30) { rng.pick(&[0, 15, 17]) } else { 16 };
@@ -108,21 +109,29 @@ fn probe(desk: &mut Desk, kind: usize, name: &str, image: Vec<u8>, rng: &mut Rng
     }
 }
 
-/// Some 400 calls: 100 images with damages of this file, or the simulator's of one image.
-pub fn unit(desk: &mut Desk, kind: usize, name: &str, seed: u64) {
+/// Some 400 calls: 130 images with damages of this file, or the simulator's of one image. `place` counts these units, so that every byte of an image has its turn.
+pub fn unit(desk: &mut Desk, name: &str, seed: u64, place: u64) {
     let mut rng = Rng::new(seed);
     if rng.one_in(3) {
-        for damaged in damages(LEVEL, &mut rng) { probe(desk, kind, name, damaged.image, &mut rng); }
+        for damaged in damages(LEVEL, &mut rng) { probe(desk, name, damaged.image, &mut rng); }
         return;
     }
+    let mut byte = (place.wrapping_mul(40) % IMAGE as u64) as usize;
     for _ in 0..10 {
-        let aim = limits::aim(&mut rng);
+        // Any cabinet, or the largest, in which the last field of all can be hurt.
+        let aim = if rng.one_in(2) { limits::aim(&mut rng) } else { limits::aim_at(&mut rng, 8, 32) };
         let good = encode(LEVEL, &aim.state);
-        for _ in 0..13 {
+        for k in 0..13 {
             let mut image = good.clone();
-            hurt(&mut rng, &aim.state, &mut image);
-            if rng.one_in(6) { hurt(&mut rng, &aim.state, &mut image); }
-            probe(desk, kind, name, image, &mut rng);
+            if k < 4 {
+                image[byte] ^= 1 << rng.below(8);
+                byte = (byte + 1) % IMAGE;
+            } else {
+                hurt(&mut rng, &aim.state, &mut image);
+                if rng.one_in(6) { hurt(&mut rng, &aim.state, &mut image); }
+            }
+            desk.counts.hurt(&good, &image);
+            probe(desk, name, image, &mut rng);
         }
     }
 }

@@ -1,5 +1,6 @@
 //! Sound images near every limit, each with an order that is aimed at an edge of on time: the newcomer's, or that of a live order which it delays.
 
+use crate::counts::Kind;
 use crate::desk::{Desk, Sheet};
 use crate::{LEVEL, ORDER};
 use second_simulator::bytes::{put16, put32};
@@ -76,8 +77,15 @@ fn tickets(rng: &mut Rng, live: usize) -> (Vec<u32>, u32) {
     (all, next)
 }
 
+/// An image of any cabinet.
 pub fn aim(rng: &mut Rng) -> Aim {
     let n = rng.pick(&[1, 1, 2, 3, 4, 5, 6, 7, 8, 8]);
+    let live = match rng.below(8) { 0 => 0, 1 => 1, 2 => 2, 3 => 30, 4 => 31, 5 => 32, _ => rng.range(0, 32) as usize };
+    aim_at(rng, n, live)
+}
+
+/// An image of so many stations and live orders.
+pub fn aim_at(rng: &mut Rng, n: usize, live: usize) -> Aim {
     let clock = match rng.below(12) {
         0 => 0,
         1 => rng.below(3) as u32,
@@ -90,7 +98,6 @@ pub fn aim(rng: &mut Rng) -> Aim {
         8 => rng.pick(&[65_535, 65_536, 0x7fff_ffff, 0x8000_0000, 0x8000_0000 - 60_000]),
         _ => rng.range(0, u64::from(CLOCK_END)) as u32,
     };
-    let live = match rng.below(8) { 0 => 0, 1 => 1, 2 => 2, 3 => 30, 4 => 31, 5 => 32, _ => rng.range(0, 32) as usize };
     let (tickets, next_ticket) = tickets(rng, live);
 
     let style = rng.below(8);
@@ -209,12 +216,12 @@ impl Aim {
 }
 
 /// Some 400 calls on 20 such images.
-pub fn unit(desk: &mut Desk, kind: usize, name: &str, seed: u64) {
+pub fn unit(desk: &mut Desk, name: &str, seed: u64) {
     let mut rng = Rng::new(seed);
     for _ in 0..20 {
         let aim = aim(&mut rng);
         let image = encode(LEVEL, &aim.state);
-        let mut sheet = Sheet::new(desk, kind, name, image);
+        let mut sheet = Sheet::new(desk, Kind::Limits, name, image);
         for k in 0..20 {
             // At first the aimed order, while the image is the one that it was aimed at.
             let call = match if k < 4 { rng.below(6) } else { rng.below(16) } {

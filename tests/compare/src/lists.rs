@@ -1,5 +1,6 @@
 //! Lists that begin with a sound image made by hand, by the simulator's makers, and calls with buffers of every length.
 
+use crate::counts::Kind;
 use crate::desk::{Desk, Sheet};
 use crate::{limits, IMAGE, LEVEL};
 use second_simulator::calls::Call;
@@ -8,7 +9,7 @@ use second_simulator::image::encode;
 use second_simulator::rng::Rng;
 
 /// Some 400 calls in lists of 10 to 200, each from a sound image that no run need lead to.
-pub fn sound(desk: &mut Desk, kind: usize, name: &str, seed: u64) {
+pub fn sound(desk: &mut Desk, name: &str, seed: u64) {
     let mut rng = Rng::new(seed);
     let mut left = 400;
     while left > 0 {
@@ -18,7 +19,7 @@ pub fn sound(desk: &mut Desk, kind: usize, name: &str, seed: u64) {
         let image = encode(LEVEL, &sound_state(LEVEL, &mut rng));
         let mut maker = Maker { level: LEVEL, rng: rng.clone(), profile };
         rng.next();
-        let mut sheet = Sheet::new(desk, kind, name, image);
+        let mut sheet = Sheet::new(desk, Kind::Sound, name, image);
         for _ in 0..calls {
             let mut lent = maker.next(&sheet.image);
             // An open of any N may stand in these lists.
@@ -29,7 +30,7 @@ pub fn sound(desk: &mut Desk, kind: usize, name: &str, seed: u64) {
 }
 
 /// Every call with images, order blocks and replies of right and wrong lengths: which question is asked first, and that nothing is touched.
-pub fn lengths(desk: &mut Desk, kind: usize, name: &str, seed: u64) {
+pub fn lengths(desk: &mut Desk, name: &str, seed: u64) {
     let mut rng = Rng::new(seed);
     for _ in 0..70 {
         let aim = limits::aim(&mut rng);
@@ -37,7 +38,7 @@ pub fn lengths(desk: &mut Desk, kind: usize, name: &str, seed: u64) {
         let length = rng.pick(&[0, 1, 2, 4, 5, 8, 15, 16, 79, 80, 2064, 2120, IMAGE - 1, IMAGE, IMAGE, IMAGE, IMAGE + 1, IMAGE + 64, 3152, 4000]);
         image.resize(length, 0);
         if rng.one_in(4) { image = rng.bytes(length); }
-        let mut sheet = Sheet::new(desk, kind, name, image);
+        let mut sheet = Sheet::new(desk, Kind::Lengths, name, image);
         for _ in 0..5 {
             let mut order = aim.order(&mut rng);
             if rng.one_in(2) {
