@@ -57,6 +57,8 @@ pub struct Counts {
     pub alone: [u64; CLAUSES.len()],
     /// by byte of the image: images that differ from a sound one in this byte
     pub bytes: Vec<u64>,
+    /// calls that were declined for a wrong length, by the buffer and its length
+    pub lengths: BTreeMap<(&'static str, usize), u64>,
     /// what stands at an edge, by name
     pub edges: BTreeMap<&'static str, u64>,
     /// plan tables by what is printed
@@ -102,6 +104,13 @@ impl Counts {
         let c = place(call);
         self.numbers[c][number as usize] += 1;
         self.calls[kind as usize] += 1;
+        let wrong = match (number, call) {
+            (1, _) => Some(("reply", reply.len())),
+            (2, _) => Some(("image", before.len())),
+            (5, Call::Quote { order } | Call::Offer { order }) => Some(("order", order.len())),
+            _ => None,
+        };
+        if let Some(wrong) = wrong { *self.lengths.entry(wrong).or_default() += 1; }
         if c == 0 || (1..=4).contains(&number) { return; }
         self.live[c].0[usize::from(before[6])] += 1;
         match call {
@@ -195,6 +204,7 @@ impl Counts {
         sum(&mut self.images, &o.images);
         sum(&mut self.alone, &o.alone);
         if self.bytes.is_empty() { self.bytes.clone_from(&o.bytes); } else { sum(&mut self.bytes, &o.bytes); }
+        for (wrong, count) in &o.lengths { *self.lengths.entry(*wrong).or_default() += count; }
         for (name, count) in &o.edges { *self.edges.entry(name).or_default() += count; }
         for (name, count) in &o.tables { *self.tables.entry(name).or_default() += count; }
         self.book.add(&o.book);
@@ -225,6 +235,7 @@ impl Counts {
         }
         for (k, (_, clause)) in CLAUSES.iter().enumerate() { say(format!("alone {clause}"), self.alone[k]); }
         say("least damages of a byte".to_string(), self.least_hurt());
+        for ((buffer, length), count) in &self.lengths { say(format!("{buffer} of {length} bytes"), *count); }
         for (name, count) in &self.edges { say(format!("edge {name}"), *count); }
         for (name, count) in &self.tables { say(format!("table {name}"), *count); }
         let b = &self.book;
@@ -257,6 +268,7 @@ impl Counts {
         ]);
         line("one clause broken alone", (0..CLAUSES.len()).map(|k| format!("{} {}", CLAUSES[k].1, self.alone[k])).collect());
         line("orders out by N", (0..8).map(|n| format!("{}: {}", n + 1, self.out[n])).collect());
+        line("wrong lengths", self.lengths.iter().map(|((buffer, length), count)| format!("{buffer} {length}: {count}")).collect());
         let edges: Vec<String> = self.edges.iter().map(|(name, count)| format!("{name} {count}")).collect();
         line("at an edge", vec![edges.join("; ")]);
         line("plan tables", self.tables.iter().map(|(name, count)| format!("{name} {count}")).collect());
