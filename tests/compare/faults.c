@@ -196,6 +196,10 @@ static uint32_t ordered(int offer, uint8_t *image, size_t image_len, const uint8
         volatile uint8_t behind = order[order_len];
         (void)behind;
     }
+    if (fault() == 72 && !offer && image_len == IMAGE) /* quote writes the image and puts it back as it was */
+        *(volatile uint8_t *)(image + 8) = image[8];
+    if (fault() == 73 && order_len == ORDER) /* the order block is written and put back as it was */
+        *(volatile uint8_t *)(uintptr_t)order = order[0];
     if (reply_len != REPLY || image_len != IMAGE)
         return offer ? right_offer(image, image_len, order, order_len, reply, reply_len) : right_quote(image, image_len, order, order_len, reply, reply_len);
     memcpy(before, image, IMAGE);

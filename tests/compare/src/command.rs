@@ -19,7 +19,23 @@ use std::time::{Duration, Instant, SystemTime};
 const USAGE: &str = "usage: compare [--calls COUNT] [--seed SEED] [--jobs JOBS] [--from UNIT] [--folder FOLDER] [--counts FILE] [--book-alone]
        compare replay FILE..";
 
-struct Arguments { calls: u64, seed: Option<u64>, jobs: u64, from: u64, folder: PathBuf, counts: Option<PathBuf>, book_alone: bool, replay: bool, files: Vec<PathBuf> }
+struct Arguments {
+    calls: u64,
+    /// from the clock if none is given
+    seed: Option<u64>,
+    jobs: u64,
+    /// the number of the first unit
+    from: u64,
+    /// where the list of a difference is written
+    folder: PathBuf,
+    /// where the counts are written, if anywhere
+    counts: Option<PathBuf>,
+    /// lists of the run book only, with the simulator left out
+    book_alone: bool,
+    /// these lists are replayed
+    replay: bool,
+    files: Vec<PathBuf>,
+}
 
 fn arguments() -> Option<Arguments> {
     let mut a = Arguments {
@@ -51,10 +67,13 @@ const ROUND: [(Kind, u64); 5] = [(Kind::Book, 10), (Kind::Sound, 3), (Kind::Limi
 /// The first list of every so many rounds is a long one.
 const LONG: u64 = 20;
 
+/// The random numbers of a unit.
+fn of_unit(seed: u64, number: u64) -> Rng { Rng::new(seed ^ number.wrapping_mul(0xd6e8_feb8_6659_fd93)) }
+
 /// A unit is one list of some 400 calls, or shorter ones that together have as many, and a plan table. It is made of the seed and its number alone, so that any
 /// unit can be made again.
 fn unit(clerk: &Clerk, tables: &mut Tables, seed: u64, number: u64) {
-    let mut rng = Rng::new(seed ^ number.wrapping_mul(0xd6e8_feb8_6659_fd93));
+    let mut rng = of_unit(seed, number);
     let made = rng.next();
     let name = |kind: &str| format!("seed {seed}, unit {number} ({kind})");
     let table = tables.one(&name("plan"), rng.next());
@@ -62,12 +81,12 @@ fn unit(clerk: &Clerk, tables: &mut Tables, seed: u64, number: u64) {
 
     let units: u64 = ROUND.iter().map(|(_, count)| count).sum();
     let (round, mut place) = (number / units, number % units);
-    let (mut kind, mut count) = ROUND[0];
-    for (k, c) in ROUND {
-        (kind, count) = (k, c);
-        if place < c { break; }
-        place -= c;
+    let mut of_kind = 0;
+    while place >= ROUND[of_kind].1 {
+        place -= ROUND[of_kind].1;
+        of_kind += 1;
     }
+    let (mut kind, count) = ROUND[of_kind];
     if number % (units * LONG) == 0 { kind = Kind::LongBook; }
     let name = name(kind.name());
     match kind {
@@ -82,7 +101,7 @@ fn unit(clerk: &Clerk, tables: &mut Tables, seed: u64, number: u64) {
 
 /// A list of the run book with the simulator left out, for a test of that checker.
 fn book_alone(clerk: &Clerk, seed: u64, number: u64) {
-    let made = Rng::new(seed ^ number.wrapping_mul(0xd6e8_feb8_6659_fd93)).next();
+    let made = of_unit(seed, number).next();
     book::list(clerk, Kind::Book, &format!("seed {seed}, list {number} (the run book alone)"), made, 400);
 }
 
@@ -185,7 +204,7 @@ fn replay(library: Library, a: &Arguments) -> ExitCode {
         let calls = steps.iter().filter(|step| matches!(step, Step::Call(_))).count();
         // Once for every place of the buffers that the first call has.
         for place in 0..lent::PLACES {
-            clerk.0.borrow_mut().place(place);
+            clerk.0.borrow_mut().place_and_seal(place);
             for step in &steps {
                 match step {
                     Step::Image(i) => {

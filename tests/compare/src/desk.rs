@@ -26,8 +26,6 @@ pub struct Library {
 const MOST_IMAGE: usize = 4096;
 const MOST_ORDER: usize = 1024;
 const MOST_REPLY: usize = 64;
-/// Every so many calls the order block, and the image of a quote, cannot be written while the library has them.
-const SEALED: u64 = 500;
 
 pub struct Desk {
     library: Library,
@@ -35,6 +33,8 @@ pub struct Desk {
     order: Room,
     reply: Room,
     turn: u64,
+    /// every so many calls the order block, and the image of a quote, cannot be written while the library has them
+    sealed: u64,
     /// the list so far: its first image, and its calls
     first: Vec<u8>,
     history: Vec<Lent>,
@@ -83,14 +83,17 @@ pub fn waiting<T>(lender: &(dyn Lender + 'static), call: impl FnOnce() -> T) -> 
 impl Desk {
     pub fn new(library: Library, folder: Option<&Path>, alone: bool) -> Desk {
         Desk {
-            library, image: Room::new(MOST_IMAGE), order: Room::new(MOST_ORDER), reply: Room::new(MOST_REPLY), turn: 0,
+            library, image: Room::new(MOST_IMAGE), order: Room::new(MOST_ORDER), reply: Room::new(MOST_REPLY), turn: 0, sealed: 500,
             first: Vec::new(), history: Vec::new(), before: Vec::new(), name: String::new(), kind: Kind::Book, aside: false, beside: false, alone,
             folder: folder.map(Path::to_path_buf), counts: Counts::default(),
         }
     }
 
-    /// The next call has all buffers in this place, one of PLACES.
-    pub fn place(&mut self, place: u64) { self.turn = place * (1 + PLACES + PLACES * PLACES); }
+    /// The next call has all buffers in this place, one of PLACES, and from now on what is to be read only is sealed in every call.
+    pub fn place_and_seal(&mut self, place: u64) {
+        self.turn = place * (1 + PLACES + PLACES * PLACES);
+        self.sealed = 1;
+    }
 
     /// A list begins with this image.
     pub fn begin(&mut self, kind: Kind, name: &str, image: &[u8]) {
@@ -148,7 +151,7 @@ impl Desk {
         let (r, rl) = (self.reply.lend(reply, turn / PLACES % PLACES, guard), reply.len());
         let order: &[u8] = if let Call::Quote { order } | Call::Offer { order } = call { order } else { &[] };
         let (o, ol) = (self.order.lend(order, turn / (PLACES * PLACES) % PLACES, guard), order.len());
-        let sealed = turn % SEALED == SEALED - 1;
+        let sealed = (turn + 1) % self.sealed == 0;
         if sealed {
             self.order.seal();
             if call.reads_only() { self.image.seal(); }
