@@ -46,7 +46,7 @@ use model::Order;
 use model::Service;
 
 // The mark `WMC`, version 1, the counts, a zero byte, clock and next ticket.
-fn put_header(image: &mut [u8], n: u8, live: u8, clock: u32, next: u32)
+pub fn put_header(image: &mut [u8], n: u8, live: u8, clock: u32, next: u32)
     requires { ⌜ length (now image) ≡ imageSize ⌝ }
     ensures { λ _. ⌜ Stored (now (image .entry)) 0 (mark ++ twoBytes version ++ (n ∷ live ∷ 0 ∷ []) ++ fourBytes clock ++ fourBytes next) (now (image .exit)) ⌝ }
 {
@@ -65,7 +65,8 @@ fn put_service(image: &mut [u8], at: usize, e: Service)
     put_u16(image, at + SERVICE_ZERO_AT, 0);
 }
 
-fn put_services(image: &mut [u8], services: [Service; 8])
+// The entries of the eight stations.
+pub fn put_services(image: &mut [u8], services: [Service; 8])
     requires { ⌜ length (now image) ≡ imageSize ⌝ }
     ensures { λ _. ⌜ Stored (now (image .entry)) servicesAt (concat (map serviceBytes services)) (now (image .exit)) × (length (concat (map serviceBytes services)) ≡ 64) ⌝ }
 {
@@ -89,7 +90,8 @@ fn put_order_head(image: &mut [u8], at: usize, o: Order)
     put_u32(image, at + STATION_AT, o.station % 256);
 }
 
-fn put_order(image: &mut [u8], at: usize, o: Order)
+// One record. Neither costs in the place of maxima nor a byte after the record changed meets the promise.
+pub fn put_order(image: &mut [u8], at: usize, o: Order)
     requires { ⌜ at + recordSize ≤ length (now image) ⌝ }
     ensures { λ _. ⌜ Stored (now (image .entry)) at (orderBytes o) (now (image .exit)) × (length (orderBytes o) ≡ recordSize) ⌝ }
 {

@@ -1,12 +1,12 @@
 -- Stores one after the other make one store of both, so that a writer that calls writers is proved by one line a call.
 use mathlib.Core.Path.{_≡_, refl, sym, ap, _∙_}
-use mathlib.Core.List.{List, [], _∷_, _++_, append-nil}
+use mathlib.Core.List.{List, [], _∷_, _++_, append-nil, append-assoc}
 use Prim.Native.Nat.{ℕ, suc, _+_, _≤_, _<_}
 use native.Mathlib.Nat.{add-zero}
 use native.Mathlib.Numerals.{add-one}
 use native.Mathlib.Omega.{arith}
-use lib.ListN.{length, getD, set, take, replicate, length-append, length-replicate, drop-of-length-le, replicate-append-replicate}
-use lib.Seq.{sets, sets-eq, length-sets, take-suc, take-all}
+use lib.ListN.{length, getD, set, take, drop, replicate, length-append, length-replicate, drop-of-length-le, replicate-append-replicate}
+use lib.Seq.{sets, sets-eq, length-sets, take-suc, take-all, take-at, drop-at, length-take-le}
 use Rattle.lists.specs.Stored.{Stored, Put}
 
 sets-append : (l vs ws : List ℕ) (i : ℕ) → sets (sets l i vs) (i + length vs) ws ≡ sets l i (vs ++ ws)
@@ -46,6 +46,20 @@ stored-all {l} {vs} {m} w h =
     let room : 0 + length vs ≤ length l = omega arith in
     let whole : length l ≤ 0 + length vs = omega arith in
     w .is ∙ sets-eq vs l 0 room ∙ rw (drop-of-length-le l whole) (append-nil vs)
+
+-- A store over a part of the list.
+pub stored-over : (x y w : List ℕ) {v m : List ℕ} {i : ℕ} → Stored (x ++ (y ++ w)) i v m → i ≡ length x → length y ≡ length v → m ≡ x ++ (v ++ w)
+stored-over x y w {v} {m} {i} s e h =
+    let l = x ++ (y ++ w) in
+    let room : i + length v ≤ length l = simp length-append (omega arith) in
+    let past : drop (i + length v) l ≡ w = rw (← append-assoc x y w) (drop-at (x ++ y) w (i + length v) (simp length-append (omega arith))) in
+    s .is ∙ sets-eq v l i room ∙ rw (past, take-at x (y ++ w) i (sym e)) (append-assoc x v w)
+
+-- What lies past a store is as it was.
+pub stored-past : {l v m : List ℕ} {i : ℕ} → Stored l i v m → i + length v ≤ length l → drop (i + length v) m ≡ drop (i + length v) l
+stored-past {l} {v} {m} {i} s h =
+    let long : length (take i l ++ v) ≡ i + length v = rw (length-append, length-take-le i l (omega arith)) in
+    ap (drop (i + length v)) (s .is ∙ sets-eq v l i h) ∙ drop-at (take i l ++ v) (drop (i + length v) l) (i + length v) long
 
 pub stored-length : {l vs m : List ℕ} {i : ℕ} → Stored l i vs m → length m ≡ length l
 stored-length {l} {vs} {m} {i} w = ap length (w .is) ∙ length-sets l i vs
