@@ -1,89 +1,118 @@
--- The loop over the live orders puts the arrival into one interference set after the other. The arrival laid after them, in the first unused record, then
--- gives the accepted state.
-use mathlib.Core.Path.{_≡_, refl, sym, ap, _∙_}
-use mathlib.Core.Bool.{cond}
-use mathlib.Core.List.{List, [], _∷_, _++_, map, append-assoc}
-use Prim.Native.Nat.{ℕ, suc, _+_, _-_, _<_}
+-- The live records are written anew, each where it stood, the arrival after them, and the header: the image of the accepted state.
+use mathlib.Core.Path.{_≡_, refl, sym, ap, subst, _∙_}
+use mathlib.Core.List.{List, [], _∷_, _++_, map, append-assoc, map-append}
+use Prim.Native.Nat.{ℕ, _+_, _-_, _*_, _≤_, _<_}
 use native.Mathlib.Omega.{arith}
-use lib.ListN.{length, getD, set, take, drop, replicate, length-append, length-map}
-use lib.Dec.{eqb}
-use lib.Seq.{set-at, drop-at, getD-take}
+use lib.ListN.{length, getD, take, drop, replicate, length-append, length-replicate, length-map, replicate-append-replicate}
 use Rattle.model.specs.declared.Block.{Block}
 use Rattle.model.specs.declared.Order.{Order}
-use Rattle.model.specs.Limits.{maxLive, lastTicket}
-use Rattle.model.specs.Lists.{largest}
+use Rattle.model.specs.Limits.{maxLive}
+use Rattle.model.specs.Lists.{concat, upward, part, largest}
+use Rattle.model.specs.Bytes.{twoBytes, fourBytes}
+use Rattle.model.specs.State.{State}
+use Rattle.model.specs.Layout.{mark, version, imageSize, servicePart, recordPart}
+use Rattle.model.specs.Image.{liveCount, serviceOf, orderOf, orderBytes, ordersOf, decode, encode}
 use Rattle.model.specs.Admission.{arrival, joinedBy, joinedLive, accept}
-use Rattle.lists.proofs.Fills.{replaced-read, replaced-next, past}
+use Rattle.lists.specs.Stored.{Stored}
+use Rattle.lists.proofs.Stores.{stored-then, stored-past}
+use Rattle.lists.proofs.Fills.{Rows, concat-append, concat-one, length-upward, getD-upward, past}
+use Rattle.lists.proofs.Tests.{upward-map}
+use Rattle.schedule.specs.Valid.{_∈_}
+use Rattle.roundtrip.specs.InRange.{byteLimit, Below}
 use Rattle.roundtrip.proofs.Rows.{getD-in}
+use Rattle.roundtrip.proofs.Sound.{encode-decode}
+use Rattle.image.specs.Pipeline.{listed, padded}
+use Rattle.image.proofs.TwoForms.{listed-padded}
 use Rattle.offers.specs.Considered.{Fitting}
-use Rattle.image.specs.declared.Pipeline.{Pipeline}
-use Rattle.image.specs.Pipeline.{unused, listed, padded}
 use Rattle.offers.proofs.Accept.{accept-length}
-use Rattle.sound_pipeline.specs.SoundPipeline.{SoundPipeline}
-use Rattle.sound_pipeline.proofs.Carried.{live-is}
+use Rattle.sound_pipeline.proofs.Decoded.{sound-pipeline}
 use Rattle.admission.proofs.PipelineLaws.{sums-fit}
+use Rattle.image_writer.proofs.Rewritten.{parts, header, entries, records, header-over, records-over, records-long}
+use Rattle.acceptance.specs.Acceptable.{Acceptable}
 
--- A state whose first i orders have the arrival in their interference sets.
-unfoldable pub joinedFirst : Pipeline → Block → ℕ → Pipeline
-joinedFirst p b i =
-    record { n = p .n; live = p .live; clock = p .clock; next = p .next; services = p .services; orders = map (joinedBy b) (take i (p .orders)) ++ drop i (p .orders) }
+-- A map over records that are read in turn.
+pub joined-rows : (b : Block) (f : ℕ → Order) (n : ℕ) → upward 0 n (λ i. orderBytes (joinedBy b (f i))) ≡ map orderBytes (map (joinedBy b) (upward 0 n f))
+joined-rows b f n = sym (ap (map orderBytes) (upward-map (joinedBy b) 0 n f) ∙ upward-map orderBytes 0 n (λ i. joinedBy b (f i)))
 
-pub joined-none : (p : Pipeline) (b : Block) → p ≡ joinedFirst p b 0
-unfolding joinedFirst
-joined-none p b = refl
+-- While the first i records are written the one after them is as it was.
+pub still : {f : ℕ → List ℕ} {l m : List ℕ} {i : ℕ} → Rows f 64 l 80 i m → 80 + 64 * i ≤ length l → recordPart m i ≡ recordPart l i
+still {f} {l} {m} {i} r h =
+    let e : 80 + length (concat (upward 0 i f)) ≡ 80 + 64 * i = ap (λ (k : ℕ). 80 + k) (r .long) in
+    let past : drop (80 + 64 * i) m ≡ drop (80 + 64 * i) l = rw e at (stored-past (r .stored) (omega (arith, r .long))) in
+    ap (take 64) past
 
--- One live order more.
-module _ {p : Pipeline} (ok : SoundPipeline p) (b : Block) (i : ℕ) (low : i < p .live) {q : Pipeline} (so-far : q ≡ joinedFirst p b i) where
-  within : i < length (p .orders)
-  unfolding padded
-  within =
-      let l = listed p .orders in
-      let long = ap (λ (s : Pipeline). length (s .orders)) (ok .whole) ∙ length-append l (replicate (maxLive - length l) unused) in
-      omega (arith, low, long, live-is ok)
+module _ {image : List ℕ} {b : Block} {a : Order} (ok : Acceptable image b a) (bytes : Below byteLimit image) where
+  live : length (decode image .orders) ≡ liveCount image
+  unfolding decode
+  live = length-upward 0 (liveCount image) (λ i. orderOf (recordPart image i))
 
-  -- The record at place i is still p's.
-  read : getD (q .orders) i past ≡ getD (p .orders) i past
-  unfolding joinedFirst
-  read = rw so-far (replaced-read (joinedBy b) past (p .orders) i)
+  eight : length (decode image .services) ≡ 8
+  unfolding decode
+  eight = length-upward 0 8 (λ i. serviceOf (servicePart image i))
 
-  -- Its sum fits with the arrival's largest cost, as that of every live order does.
-  pub next-fits : Fitting (listed p) b → largest (b .costs) + getD (q .orders) i past .sum < 4294967296
-  unfolding listed
-  next-fits f =
-      let live = take (p .live) (p .orders) in
-      let here = getD-in live past i (omega (arith, low, live-is ok)) in
-      rw (read, ← getD-take (p .live) (p .orders) i past low) (sums-fit ok f refl (getD live i past) here)
+  same : encode (decode image) ≡ image
+  same = encode-decode image (ok .whole) bytes (ok .is-marked) (ok .is-sound)
 
-  pub joined-next : {o : Order} → o ≡ joinedBy b (getD (q .orders) i past) → record { n = q .n; live = q .live; clock = q .clock; next = q .next; services = q .services; orders = set (q .orders) i o } ≡ joinedFirst p b (i + 1)
-  unfolding joinedFirst
-  joined-next e = rw (so-far, replaced-next (joinedBy b) past (p .orders) _ i _ within refl (e ∙ ap (joinedBy b) read))
+  -- There is an unused record.
+  pub room : liveCount image < maxLive
+  room = omega (arith, live, ok .fitting .room)
 
--- All live orders are joined, and the arrival follows them.
-module _ {p : Pipeline} (ok : SoundPipeline p) (b : Block) (room : length (listed p .orders) < maxLive) where
-  rest : drop (p .live) (p .orders) ≡ unused ∷ replicate (maxLive - (p .live + 1)) unused
-  unfolding padded
-  rest =
-      let e : maxLive - length (listed p .orders) ≡ suc (maxLive - (p .live + 1)) = omega (arith, room, live-is ok) in
-      ap (drop (p .live)) (ap (λ (q : Pipeline). q .orders) (ok .whole))
-      ∙ drop-at (listed p .orders) (replicate (maxLive - length (listed p .orders)) unused) (p .live) (sym (live-is ok))
-      ∙ ap (λ (k : ℕ). replicate k unused) e
+  -- Each live order's sum fits with the arrival's largest cost.
+  pub sums : (i : ℕ) → i < liveCount image → largest (b .costs) + orderOf (recordPart image i) .sum < 4294967296
+  unfolding decode listed
+  sums i h =
+      let p = padded (decode image) in
+      let said : listed p ≡ decode image = listed-padded (decode image) in
+      let here : getD (decode image .orders) i past ∈ decode image .orders = getD-in (decode image .orders) past i (omega (arith, h, live)) in
+      let fits = sums-fit (sound-pipeline image bytes (ok .is-sound) refl) (subst (λ (t : State). Fitting t b) (sym said) (ok .fitting)) refl (getD (decode image .orders) i past) (subst (λ (t : State). getD (decode image .orders) i past ∈ t .orders) (sym said) here) in
+      rw (getD-upward (liveCount image) (λ j. orderOf (recordPart image j)) i past h) at fits
 
-  joined-length : length (joinedLive (listed p) b) ≡ p .live
-  unfolding joinedLive
-  joined-length = length-map (listed p .orders) (joinedBy b) ∙ sym (live-is ok)
+  spare : List ℕ
+  spare = replicate (64 * (32 - (liveCount image + 1))) 0
 
-  accepted-length : length (accept (listed p) b .orders) ≡ p .live + 1
-  accepted-length = accept-length (listed p) b ∙ ap (λ (k : ℕ). k + 1) (sym (live-is ok))
+  orders : List ℕ
+  orders = concat (map orderBytes (decode image .orders))
 
-  laid : set (map (joinedBy b) (take (p .live) (p .orders)) ++ drop (p .live) (p .orders)) (p .live) (arrival (listed p) b) ≡ accept (listed p) b .orders ++ replicate (maxLive - length (accept (listed p) b .orders)) unused
-  unfolding listed joinedLive accept
-  laid =
-      let spare = replicate (maxLive - (p .live + 1)) unused in
-      ap (λ (l : List Order). set (joinedLive (listed p) b ++ l) (p .live) (arrival (listed p) b)) rest
-      ∙ set-at (joinedLive (listed p) b) unused spare (arrival (listed p) b) (p .live) joined-length
-      ∙ sym (append-assoc (joinedLive (listed p) b) (arrival (listed p) b ∷ []) spare)
-      ∙ ap (λ (k : ℕ). accept (listed p) b .orders ++ replicate (maxLive - k) unused) (sym accepted-length)
+  -- The records: those of the live orders, the first unused one, and the others.
+  divided : records (decode image) ≡ (orders ++ replicate 64 0) ++ spare
+  unfolding orders spare
+  divided =
+      let e : 64 * (32 - length (decode image .orders)) ≡ 64 + 64 * (32 - (liveCount image + 1)) = omega (arith, live, room) in
+      rw (e, ← replicate-append-replicate {A = ℕ} 64 (64 * (32 - (liveCount image + 1))) 0) (sym (append-assoc (concat (map orderBytes (decode image .orders))) (replicate 64 0) (replicate (64 * (32 - (liveCount image + 1))) 0)))
 
-  pub accepted : {q : Pipeline} {a : Order} {next : ℕ} → q ≡ joinedFirst p b (p .live) → a ≡ arrival (listed p) b → next ≡ cond (eqb (p .next) lastTicket) 0 (p .next + 1) → record { n = q .n; live = p .live + 1; clock = q .clock; next = next; services = q .services; orders = set (q .orders) (p .live) a } ≡ padded (accept (listed p) b)
-  unfolding padded listed accept joinedFirst
-  accepted j e n = rw (j, e, n, laid, ← accepted-length)
+  written-long : length (orders ++ replicate 64 0) ≡ 64 * liveCount image + 64
+  unfolding spare
+  written-long =
+      let whole : length (records (decode image)) ≡ 2048 = records-long (decode image) eight (ap length same ∙ ok .whole) in
+      omega (arith, ap length divided, length-append (orders ++ replicate 64 0) spare, length-replicate {A = ℕ} (64 * (32 - (liveCount image + 1))) 0, whole, room)
+
+  accepted-live : length (accept (decode image) b .orders) ≡ liveCount image + 1
+  accepted-live = accept-length (decode image) b ∙ ap (λ (k : ℕ). k + 1) live
+
+  accepted-at : a .accepted ≡ decode image .clock
+  unfolding arrival
+  accepted-at = ap (λ (o : Order). o .accepted) (ok .arrives)
+
+  module _ {v : List ℕ} (is : v ≡ concat (map orderBytes (map (joinedBy b) (ordersOf image (liveCount image))))) where
+    -- The accepted state's records.
+    accepted-records : v ++ orderBytes a ++ spare ≡ records (accept (decode image) b)
+    unfolding spare accept joinedLive decode
+    accepted-records =
+        let joined = map (joinedBy b) (decode image .orders) in
+        let e : concat (map orderBytes (joined ++ (arrival (decode image) b ∷ []))) ≡ v ++ orderBytes a =
+        rw (map-append orderBytes joined (arrival (decode image) b ∷ []), concat-append (map orderBytes joined) (orderBytes (arrival (decode image) b) ∷ []), concat-one (orderBytes (arrival (decode image) b)), ← ok .arrives)
+        (ap (λ (l : List ℕ). l ++ orderBytes a) (sym is)) in
+        let k : 64 * (32 - length (joined ++ (arrival (decode image) b ∷ []))) ≡ 64 * (32 - (liveCount image + 1)) =
+        rw (length-append joined (arrival (decode image) b ∷ []), length-map (decode image .orders) (joinedBy b), live) refl in
+        rw (e, k) refl
+
+    pub accepted : {m1 m2 m3 : List ℕ} {n next : ℕ} → Stored image 80 v m1 → length v ≡ 64 * liveCount image → Stored m1 (80 + 64 * liveCount image) (orderBytes a) m2 → length (orderBytes a) ≡ 64 → Stored m2 0 (mark ++ twoBytes version ++ (n ∷ (liveCount image + 1) ∷ 0 ∷ []) ++ fourBytes (a .accepted) ++ fourBytes next) m3 → n ≡ decode image .n → next ≡ accept (decode image) b .next → m3 ≡ encode (accept (decode image) b)
+    unfolding decode accept
+    accepted {m1} {m2} {m3} {n} {next} s1 n1 s2 n2 s3 n-is next-is =
+        let both : Stored (encode (decode image)) 80 (v ++ orderBytes a) m2 = rw (sym same) at (stored-then s1 (ap (λ (k : ℕ). 80 + k) (sym n1)) s2) in
+        let long : length (orders ++ replicate 64 0) ≡ length (v ++ orderBytes a) = written-long ∙ sym (length-append v (orderBytes a) ∙ omega (arith, n1, n2)) in
+        let over : m2 ≡ header (decode image) ++ (entries (decode image) ++ (v ++ orderBytes a ++ spare)) = records-over (decode image) eight (orders ++ replicate 64 0) spare divided long both in
+        let head = header-over (decode image) eight (v ++ orderBytes a ++ spare) (rw over at s3) refl in
+        head
+        ∙ ap (λ (r : List ℕ). mark ++ twoBytes version ++ (n ∷ (liveCount image + 1) ∷ 0 ∷ []) ++ fourBytes (a .accepted) ++ fourBytes next ++ (entries (decode image) ++ r)) accepted-records
+        ∙ rw (n-is, next-is, ← accepted-live, accepted-at) (sym (parts (accept (decode image) b)))

@@ -1,15 +1,27 @@
-// The state with the arrival in it.
+// An arrival accepted: the image of the state with it. Of the image before, the header, the records of the live orders and
+// the first unused record are written, where they lie.
 ghost use mathlib.Core.Path.{_≡_};
+ghost use mathlib.Core.List.{map};
 ghost use mathlib.Core.Bool.{cond};
-ghost use Prim.Native.Nat.{_+_};
+ghost use Prim.Native.Nat.{ℕ, _+_, _*_, _≤_, _<_};
+ghost use lib.ListN.{length};
 ghost use lib.Dec.{eqb};
-ghost use Rattle.model.specs.Limits.{lastTicket};
+ghost use Rattle.model.specs.Limits.{maxLive, lastTicket};
+ghost use Rattle.model.specs.Lists.{largest, concat};
+ghost use Rattle.model.specs.Layout.{imageSize, recordsAt, recordSize, recordPart};
+ghost use Rattle.model.specs.Image.{orderOf, ordersOf, orderBytes, decode, encode};
+ghost use Rattle.model.specs.Admission.{joinedBy};
 ghost use Rattle.model.specs.Admission as defined;
-ghost use Rattle.image.specs.Pipeline.{listed, padded};
-ghost use Rattle.offers.specs.Considered.{Fitting};
-ghost use Rattle.sound_pipeline.specs.SoundPipeline.{SoundPipeline};
-use image::Pipeline;
+ghost use Rattle.lists.specs.Stored.{Stored};
+ghost use Rattle.acceptance.specs.Acceptable.{Acceptable};
+use image::decode::order_at;
+use image::layout::LIVE_COUNT_AT;
+use image::layout::RECORD_SIZE;
+use image::layout::RECORDS_AT;
+use image::layout::STATION_COUNT_AT;
 use image::wide;
+use image_writer::put_header;
+use image_writer::put_order;
 use interference::joined_by;
 use model::Block;
 use model::Order;
@@ -22,25 +34,33 @@ fn ticket_after(ticket: u32) -> u32
     if ticket == LAST_TICKET { 0 } else { ticket + 1 }
 }
 
-// One state throughout: a list of orders beside it would be a second copy of 32 records. Neither the arrival's ticket left as
-// the next one nor live orders without the arrival in their interference sets meet the promise.
-pub fn accept(p: Pipeline, b: Block, a: Order) -> Pipeline
-    requires { ⌜ SoundPipeline p ⌝ }
-    requires { ⌜ Fitting (listed p) b × (a ≡ defined.arrival (listed p) b) ⌝ }
-    ensures { λ r. ⌜ r ≡ padded (defined.accept (listed p) b) ⌝ }
+// The records of the live orders, each with the arrival in its interference set. A live order passed over does not meet the
+// promise.
+fn put_joined(image: &mut [u8], b: Block, live: usize)
+    requires { ⌜ (length (now image) ≡ imageSize) × (live ≤ maxLive) ⌝ }
+    requires { ⌜ ((i : ℕ) → i < live → largest (b .costs) + orderOf (recordPart (now image) i) .sum < 4294967296) ⌝ }
+    ensures { λ _. ⌜ Stored (now (image .entry)) recordsAt (concat (map orderBytes (map (joinedBy b) (ordersOf (now (image .entry)) live)))) (now (image .exit)) ⌝ }
+    ensures { λ _. ⌜ length (concat (map orderBytes (map (joinedBy b) (ordersOf (now (image .entry)) live)))) ≡ recordSize * live ⌝ }
 {
-    let live = wide(p.live);
     let costs = b.costs;
     let top = row_soundness::largest(costs);
-    let mut q = p;
     let mut i: usize = 0;
     while i < live {
-        let o = q.orders[i];
-        q.orders[i] = joined_by(b, top, o);
+        let o = order_at(image, i);
+        put_order(image, RECORDS_AT + RECORD_SIZE * i, joined_by(b, top, o));
         i += 1;
     }
-    q.orders[live] = a;
-    q.live = p.live + 1;
-    q.next = ticket_after(p.next);
-    q
+}
+
+// Neither the arrival's ticket left as the next one nor live orders without the arrival in their interference sets meet the
+// promise.
+pub fn accept(image: &mut [u8], b: Block, a: Order)
+    requires { ⌜ Acceptable (now image) b a ⌝ }
+    ensures { λ _. ⌜ now (image .exit) ≡ encode (defined.accept (decode (now (image .entry))) b) ⌝ }
+{
+    let n = image[STATION_COUNT_AT];
+    let live = image[LIVE_COUNT_AT];
+    put_joined(image, b, wide(live));
+    put_order(image, RECORDS_AT + RECORD_SIZE * wide(live), a);
+    put_header(image, n, live + 1, a.accepted, ticket_after(a.ticket));
 }

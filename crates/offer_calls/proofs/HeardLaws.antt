@@ -3,32 +3,28 @@ use mathlib.Core.Path.{_≡_, refl, sym, ap, _∙_}
 use mathlib.Core.Logic.{inl}
 use mathlib.Core.Bool.{Bool, true, false, cond}
 use mathlib.Core.List.{List, _++_}
-use Prim.Native.Nat.{ℕ, _≤_}
+use Prim.Native.Nat.{ℕ}
 use native.Mathlib.Omega.{arith}
 use lib.ListN.{length}
 use borrow.Author.Tests.{eq-eqb, ne-eqb}
 use Rattle.model.specs.declared.Block.{Block}
-use Rattle.model.specs.Limits.{maxLive}
 use Rattle.model.specs.Lists.{isZero}
-use Rattle.model.specs.Bytes.{fourBytes, bits32}
+use Rattle.model.specs.Bytes.{word, fourBytes, bits32}
 use Rattle.model.specs.State.{State}
-use Rattle.model.specs.Layout.{imageSize, blockSize, replySize}
+use Rattle.model.specs.Layout.{imageSize, nextAt, blockSize, replySize}
 use Rattle.model.specs.Image.{decode, encode}
 use Rattle.model.specs.Questions.{firstNo, Answer, replyBytes}
-use Rattle.model.specs.Admission.{blockOf, accept, blockLengthQuestion, blockQuestions, stateQuestions, orderQuestions}
+use Rattle.model.specs.Admission.{blockOf, arrival, accept, blockLengthQuestion, blockQuestions, stateQuestions, orderQuestions}
 use Rattle.model.specs.Calls.{replyQuestion, lengthQuestion, imageQuestions, offerNumber, offerCall, quoteCall, result}
-use Rattle.image.specs.declared.Pipeline.{Pipeline}
-use Rattle.image.specs.Pipeline.{padded, listed}
-use Rattle.image.proofs.TwoForms.{listed-padded}
-use Rattle.offers.specs.Considered.{Fitting}
 use Rattle.offers.proofs.Questions.{considered}
-use Rattle.offers.proofs.Accept.{accept-length}
 use Rattle.decision.specs.declared.Decision.{Decision}
 use Rattle.decision.specs.declared.Decision.the-variants.{Accepted, Costs, DueIn, DueTick, Tickets, Room, Late, Delaying}
 use Rattle.admission.specs.declared.Offered.{Offered}
 use Rattle.decision.specs.Decision.{numberOf, answerOf}
 use Rattle.admission.specs.Answers.{Decides, Offers}
+use Rattle.acceptance.specs.Acceptable.{Acceptable}
 use Rattle.call_results.specs.Gives.{Gives}
+use Rattle.offer_calls.specs.Answered.{Answers}
 use Rattle.offer_calls.specs.Heard.{Heard}
 
 -- The reply's bytes, as they are put.
@@ -52,11 +48,6 @@ same false x = refl
 -- The answer to an offer, about the state and the order that the bytes say.
 pub about : {t s : State} {b c : Block} (o : Offered) → t ≡ s → c ≡ b → Offers (blockQuestions (t .n) c ++ stateQuestions t c) t c o → Offers (blockQuestions (s .n) b ++ stateQuestions s b) s b o
 about o e f r = rw (← e, ← f) r
-
--- An accepted state has at most 32 live orders.
-pub room-left : {s : State} {b : Block} {q : Pipeline} → Fitting s b → q ≡ padded (accept s b) → q .live ≤ maxLive
-unfolding padded
-room-left {s} {b} f e = omega (arith, ap (λ (q : Pipeline). q .live) e, accept-length s b, f .room)
 
 module _ (image block reply : List ℕ) (h : Heard image block reply) where
   number-is : firstNo (blockQuestions (decode image .n) (blockOf block) ++ stateQuestions (decode image) (blockOf block)) ≡ offerNumber image block reply
@@ -102,8 +93,17 @@ module _ (image block reply : List ℕ) (h : Heard image block reply) where
             reply-is = rw (← is, ne-eqb (numberOf d) 1 (never-one d), r .offered);
           }
 
-      pub image-is : {t : State} {c : Block} {q : Pipeline} → t ≡ decode image → c ≡ blockOf block → q ≡ padded (accept t c) → encode (listed q) ≡ encode (accept (decode image) (blockOf block))
-      image-is e f g = ap encode (ap listed g ∙ listed-padded (accept _ _)) ∙ rw (e, f)
+  -- What is accepted, and into what.
+  pub acceptable : {b : Block} {o : Offered} → Answers (decode image) (blockOf block) o → numberOf (o .decision) ≡ 0 → b ≡ blockOf block → Acceptable image b (o .arrival)
+  acceptable {b} {o} r done e =
+      record {
+        whole = h .usable .image-whole;
+        is-marked = h .usable .image-marked;
+        is-sound = h .usable .image-sound;
+        fitting = rw e (considered image block reply (inl (sym (r .decides .number-is ∙ number-is) ∙ done)) .fitting);
+        arrives = r .arrives done ∙ ap (arrival (decode image)) (sym e);
+      }
 
-      pub fitting : Fitting (decode image) (blockOf block)
-      fitting = considered image block reply (inl (sym is ∙ done)) .fitting
+  pub next-is : word image nextAt ≡ decode image .next
+  unfolding decode
+  next-is = refl

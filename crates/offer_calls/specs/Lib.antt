@@ -1,2 +1,3 @@
 -- What is asked before the state and the order are.
 pub mod Heard
+pub mod Answered

@@ -1,113 +1,107 @@
--- Live order by live order, then the arrival in the first unused record.
-use mathlib.Core.Path.{_≡_}
-use Prim.Native.Nat.{_≤_, _<_, _-_}
+-- The records, the arrival and the header are one image: that of the accepted state.
+use mathlib.Core.Path.{_≡_, refl, _∙_}
+use mathlib.Core.Bool.{cond}
+use mathlib.Core.List.{List}
+use Prim.Native.Nat.{ℕ, _+_, _<_}
 use native.Mathlib.Omega.{arith}
 use borrow.Author.Needs.{needs}
-use Rattle.model.specs.Limits.{maxLive}
-use Rattle.sound_pipeline.proofs.Carried.{live-is, few}
-use Rattle.acceptance.proofs.AcceptLaws.{joinedFirst, joined-none, joined-next, next-fits, accepted}
+use lib.ListN.{getD}
+use lib.Dec.{eqb}
+use Rattle.model.specs.declared.Block.{Block}
+use Rattle.model.specs.declared.Order.{Order}
+use Rattle.model.specs.Limits.{lastTicket}
+use Rattle.model.specs.Image.{liveCount, decode}
+use Rattle.model.specs.Admission.{arrival, accept}
+use Rattle.lists.proofs.Stores.{stored-length}
+use Rattle.roundtrip.specs.InRange.{byteLimit, Below}
+use Rattle.acceptance.specs.Acceptable.{Acceptable}
+use Rattle.acceptance.proofs.AcceptLaws.{room, sums, accepted}
 use Rattle.acceptance.proofs.accept.Statement.{statement}
 use Rattle.acceptance.proofs.accept.Tie as tie
 
-abbrev Inv-loop : tie.InvT-loop
-Inv-loop p b a live top q₀ i₀ q i = (live ≡ p .live) × (i ≤ live) × (q ≡ joinedFirst p b i)
+-- The image's bytes are bytes, and it has an unused record.
+bytes-of : (c : tie.After-slice-known) → Below byteLimit (c .before .args .image .now)
+bytes-of c i = c .slice-known .given i .fits
 
-abbrev μ-loop : tie.MeasureT-loop
-μ-loop p b a live top q₀ i₀ q i = live - i
+spare : (c : tie.After-slice-known) → liveCount (c .before .args .image .now) < 32
+spare c = room (c .before .pre) (bytes-of c)
 
-abbrev start-of : tie.At-loop Inv-loop μ-loop → tie.Start Inv-loop μ-loop
-start-of c = c .before .before .before .before
+-- The count of stations stays; the ticket after the arrival's is the next one.
+n-is : (image : List ℕ) → getD image 5 0 ≡ decode image .n
+unfolding decode
+n-is image = refl
 
--- The place is that of a live order, and so of a record.
-low : (c : tie.In-loop Inv-loop μ-loop) → c .before .loop .i < start-of (c .before) .args .p .live
-low c = omega (arith, c .before .loop .inv .0)
+next-is : (image : List ℕ) {b : Block} {a : Order} {next : ℕ} → Acceptable image b a → next ≡ cond (eqb (a .ticket) lastTicket) 0 (a .ticket + 1) → next ≡ accept (decode image) b .next
+unfolding accept arrival
+next-is image ok e = e ∙ rw (ok .arrives)
 
-within : (c : tie.In-loop Inv-loop μ-loop) → c .before .loop .i < maxLive
-within c = omega (arith, low c, few (start-of (c .before) .pre .0))
+slice-read-n : tie.Need-slice-read-n
+slice-read-n c = search needs
 
--- There is an unused record.
-room : (c : tie.Start Inv-loop μ-loop) → c .args .p .live < maxLive
-room c = omega (arith, live-is (c .pre .0), c .pre .1 .0 .room)
+slice-read-live : tie.Need-slice-read-live
+slice-read-live c = search needs
 
-wide-requires : tie.Need-wide-requires Inv-loop μ-loop
+wide-requires : tie.Need-wide-requires
 wide-requires c κs = search needs
 
-largest-requires : tie.Need-largest-requires Inv-loop μ-loop
-largest-requires c κs = search needs
+put-joined-requires : tie.Need-put-joined-requires
+put-joined-requires c κs =
+    let known = c .before .before .before .before in
+    let ok = known .before .pre in
+    ((ok .whole, omega (arith, c .wide .ensures, spare known)), λ i h. sums ok (bytes-of known) i (omega (arith, h, c .wide .ensures)))
 
-loop-holds : tie.Need-loop-holds Inv-loop μ-loop
-loop-holds c = (c .before .before .wide .ensures, omega arith, joined-none _ _)
+wide-requires-2 : tie.Need-wide-requires-2
+wide-requires-2 c κs = search needs
 
-mul-o : tie.Need-mul-o Inv-loop μ-loop
-mul-o c = omega (arith, within c)
+mul-put-order : tie.Need-mul-put-order
+mul-put-order c = omega (arith, c .wide2 .ensures, spare (c .before .before .before .before .before .before .before .before .before))
 
-element-copy-out-o : tie.Need-element-copy-out-o Inv-loop μ-loop
-element-copy-out-o c = within c
+add-put-order : tie.Need-add-put-order
+add-put-order c = omega (arith, c .wide2 .ensures, spare (c .before .before .before .before .before .before .before .before .before))
 
-joined-by-requires : tie.Need-joined-by-requires Inv-loop μ-loop
-joined-by-requires c κs =
-    let k = c .before .before in
-    let top = start-of k in
-    let sum = k .before .largest .ensures in
-    (sum .0, omega (arith, sum .0, next-fits (top .pre .0) (top .args .b) _ (low (c .before)) (k .loop .inv .2) (top .pre .1 .0)))
+put-order-requires : tie.Need-put-order-requires
+put-order-requires c κs =
+    let joined = c .before .before .before .before in
+    let known = joined .before .before .before .before .before in
+    omega (arith, c .wide2 .ensures, spare known, known .before .pre .whole, stored-length (joined .put-joined .ensures .0))
 
-mul-t11 : tie.Need-mul-t11 Inv-loop μ-loop
-mul-t11 c = omega (arith, within (c .before .before))
+add-put-header : tie.Need-add-put-header
+add-put-header c = omega (arith, spare (c .before .before .before .before .before .before .before .before .before .before .before .before .before))
 
-element-set-from-q : tie.Need-element-set-from-q Inv-loop μ-loop
-element-set-from-q c = within (c .before .before)
-
-add-i : tie.Need-add-i Inv-loop μ-loop
-add-i c = omega (arith, within (c .before .before))
-
-loop-less : tie.Need-loop-less Inv-loop μ-loop
-loop-less c = omega arith
-
-loop-again : tie.Need-loop-again Inv-loop μ-loop
-loop-again c =
-    let k = c .before .before .before in
-    let top = start-of k in
-    (k .loop .inv .0, omega arith, joined-next (top .pre .0) (top .args .b) _ (low (c .before .before)) (k .loop .inv .2) (c .joined-by .ensures))
-
-mul-a : tie.Need-mul-a Inv-loop μ-loop
-mul-a c = omega (arith, c .before .loop .inv .0, room (start-of (c .before)))
-
-element-set-from-a : tie.Need-element-set-from-a Inv-loop μ-loop
-element-set-from-a c = omega (arith, c .before .loop .inv .0, room (start-of (c .before)))
-
-add-q : tie.Need-add-q Inv-loop μ-loop
-add-q c = omega (arith, room (start-of (c .before .before)))
-
-ticket-after-requires : tie.Need-ticket-after-requires Inv-loop μ-loop
+ticket-after-requires : tie.Need-ticket-after-requires
 ticket-after-requires c κs = search needs
 
-returns : tie.Need-returns Inv-loop μ-loop
+put-header-requires : tie.Need-put-header-requires
+put-header-requires c κs = search needs
+
+same-length : tie.Need-same-length
+same-length c = search needs
+
+returns : tie.Need-returns
 returns c =
-    let k = c .before .before .before in
-    let top = start-of k in
-    let inv = k .loop .inv in
-    let e : k .loop .i ≡ top .args .p .live = omega (arith, inv .0) in
-    rw (inv .0) (accepted (top .pre .0) (top .args .b) (top .pre .1 .0 .room) (rw e at (inv .2)) (top .pre .1 .1) (c .ticket-after .ensures))
+    let head = c .before .before in
+    let put = head .before .before .before .before .before in
+    let joined = put .before .before .before .before .before in
+    let known = joined .before .before .before .before .before in
+    let ok = known .before .pre in
+    let rows = rw (joined .before .wide .ensures) at (joined .put-joined .ensures) in
+    let laid = rw (put .before .wide2 .ensures) at (put .put-order .ensures .0) in
+    accepted ok (bytes-of known) refl (rows .0) (rows .1) laid (put .put-order .ensures .1) (head .put-header .ensures) (n-is _) (next-is _ ok (head .before .ticket-after .ensures))
 
 pub accept-spec : {M : Type 1} → statement M
 accept-spec =
     tie.close
     (tie.spec
-    Inv-loop
-    μ-loop
+    slice-read-n
+    slice-read-live
     wide-requires
-    largest-requires
-    loop-holds
-    mul-o
-    element-copy-out-o
-    joined-by-requires
-    mul-t11
-    element-set-from-q
-    add-i
-    loop-less
-    loop-again
-    mul-a
-    element-set-from-a
-    add-q
+    put-joined-requires
+    wide-requires-2
+    mul-put-order
+    add-put-order
+    put-order-requires
+    add-put-header
     ticket-after-requires
+    put-header-requires
+    same-length
     returns)

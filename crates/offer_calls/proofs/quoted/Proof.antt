@@ -2,23 +2,12 @@
 use mir.Syntax.{w32}
 use mir.Facts.{toZ-ofZ}
 use borrow.Author.Needs.{needs}
-use Rattle.sound_pipeline.proofs.Decoded.{readable, listed-is, sound-pipeline}
-use Rattle.offer_calls.proofs.HeardLaws.{about, quote-gives}
+use Rattle.offer_calls.proofs.HeardLaws.{quote-gives}
 use Rattle.offer_calls.proofs.quoted.Statement.{statement}
 use Rattle.offer_calls.proofs.quoted.Tie as tie
 
-decode-requires : tie.Need-decode-requires
-decode-requires c κs =
-    let known = c .before .before in
-    readable _ (λ i. known .shared-slice-known .given i .fits) (known .before .pre .usable .image-sound) (known .before .pre .usable .image-whole)
-
-block-of-requires : tie.Need-block-of-requires
-block-of-requires c κs = search needs
-
-offer-requires : tie.Need-offer-requires
-offer-requires c κs =
-    let known = c .before .before .before .before in
-    sound-pipeline _ (λ i. known .shared-slice-known .given i .fits) (known .before .pre .usable .image-sound) (c .before .decode .ensures)
+considered-requires : tie.Need-considered-requires
+considered-requires c κs = search needs
 
 reply-of-requires : tie.Need-reply-of-requires
 reply-of-requires c κs = search needs
@@ -37,22 +26,9 @@ returns c =
     let put = c .before .before in
     let told = put .before .before in
     let reply-of = told .before .before in
-    let offer = reply-of .before in
-    let decode = offer .before .before in
-    let known = decode .before .before .before in
-    let says = about (offer .offer .result) (listed-is _ (λ i. known .shared-slice-known .given i .fits) (known .before .pre .usable .image-sound) (decode .decode .ensures)) (offer .before .block-of .ensures) (offer .offer .ensures) in
+    let answer = reply-of .before in
     rw (put .put-reply .ensures, put .before .bits .ensures, toZ-ofZ {w = w32} (record { sfits = told .struct-told .given .1 .1 .1 .0 .1 }), reply-of .reply-of .ensures)
-    (quote-gives _ _ _ (known .before .pre) (offer .offer .result .decision) (says .decides))
+    (quote-gives _ _ _ (answer .before .before .before .before .pre) (answer .considered .result .decision) (answer .considered .ensures .decides))
 
 pub quoted-spec : {M : Type 1} → statement M
-quoted-spec =
-    tie.close
-    (tie.spec
-    decode-requires
-    block-of-requires
-    offer-requires
-    reply-of-requires
-    bits-requires
-    put-reply-requires
-    same-length
-    returns)
+quoted-spec = tie.close (tie.spec considered-requires reply-of-requires bits-requires put-reply-requires same-length returns)
