@@ -1,10 +1,10 @@
 -- What an offer's answer says.
 use mathlib.Core.Path.{_≡_}
-use mathlib.Core.List.{List}
+use mathlib.Core.List.{List, _++_}
 use Rattle.model.specs.declared.Block.{Block}
 use Rattle.model.specs.State.{State}
 use Rattle.model.specs.Questions.{Question, firstNo}
-use Rattle.model.specs.Admission.{arrival, offerAnswer, quoteAnswer}
+use Rattle.model.specs.Admission.{blockQuestions, stateQuestions, arrival, offerAnswer, quoteAnswer}
 use Rattle.decision.specs.declared.Decision.{Decision}
 use Rattle.admission.specs.declared.Offered.{Offered}
 use Rattle.decision.specs.Decision.{numberOf, answerOf}
@@ -19,3 +19,7 @@ pub record Decides (questions : List Question) (s : State) (b : Block) (d : Deci
 pub record Offers (questions : List Question) (s : State) (b : Block) (o : Offered) : Type 0 where
   pub decides : Decides questions s b (o .decision)
   pub arrives : numberOf (o .decision) ≡ 0 → o .arrival ≡ arrival s b
+
+-- The answer to an order at a state: the first "no" of questions 6 to 12.
+abbrev pub Answers : State → Block → Offered → Type 0
+Answers s b o = Offers (blockQuestions (s .n) b ++ stateQuestions s b) s b o

@@ -1,21 +1,30 @@
-// Quote and offer on a state by value: questions 6 to 12, "first "no" decides".
+// Quote and offer: questions 6 to 12, "first "no" decides".
 ghost use mathlib.Core.Path.{_≡_};
-ghost use mathlib.Core.List.{_++_};
-ghost use lib.ListN.{drop};
+ghost use mathlib.Core.Bool.{true};
+ghost use lib.ListN.{length, drop};
 ghost use Prim.Native.Nat.{_≤_};
 ghost use Rattle.model.specs.Limits.{lastTick};
-ghost use Rattle.model.specs.Admission.{dueOf, blockQuestions, stateQuestions};
+ghost use Rattle.model.specs.Layout.{imageSize};
+ghost use Rattle.model.specs.Image as says;
+ghost use Rattle.model.specs.Soundness.{sound};
+ghost use Rattle.model.specs.Admission.{dueOf, stateQuestions};
 ghost use Rattle.image.specs.Pipeline.{listed, unused};
 ghost use Rattle.offers.specs.Considered.{Fitting};
 ghost use Rattle.admission.specs.Arrival.{arrivalWith};
 ghost use Rattle.sound_pipeline.specs.SoundPipeline.{SoundPipeline};
-ghost use Rattle.admission.specs.Answers.{Offers};
+ghost use Rattle.admission.specs.Answers.{Offers, Answers};
 use decision::Decision;
 use decision::decide;
 use image::Pipeline;
+use image::decode::decode;
+use image::layout::CLOCK_AT;
+use image::layout::LIVE_COUNT_AT;
+use image::layout::NEXT_AT;
+use image::layout::STATION_COUNT_AT;
 use image::unused_order;
 use image::wide;
 use image::wide32;
+use little_endian_reader::u32_at;
 use margins::Tried;
 use margins::try_all;
 use model::Block;
@@ -85,26 +94,29 @@ fn answered(p: Pipeline, b: Block) -> Offered
     }
 }
 
-// Questions 6 to 12. Neither an order declined whose delay bound keeps all on time nor one accepted beside 32 live ones meets
-// the promise.
-pub fn offer(p: Pipeline, b: Block) -> Offered
-    requires { ⌜ SoundPipeline p ⌝ }
-    ensures { λ r. ⌜ Offers (blockQuestions (listed p .n) b ++ stateQuestions (listed p) b) (listed p) b r ⌝ }
+// Questions 6 to 12, of an order at what an image says. The records are read once 6 to 10 pass: 11 and 12 alone ask for them,
+// and the state is carried from there. Neither an order declined whose delay bound keeps all on time nor one accepted beside
+// 32 live ones meets the promise.
+pub fn offer(image: &[u8], b: Block) -> Offered
+    requires { ⌜ (length (now image) ≡ imageSize) × (sound (now image) ≡ true) ⌝ }
+    ensures { λ r. ⌜ Answers (says.decode (now (image .entry))) b r ⌝ }
 {
-    if !order_block::fits(wide32(p.n), b) {
+    let clock = u32_at(image, CLOCK_AT);
+    let next = u32_at(image, NEXT_AT);
+    if !order_block::fits(wide32(image[STATION_COUNT_AT]), b) {
         return declined(Decision::Costs);
     }
     if MAX_DUE_IN < wide64(b.due_in) {
         return declined(Decision::DueIn);
     }
-    if wide64(LAST_TICK) < due_tick(p.clock, b) {
+    if wide64(LAST_TICK) < due_tick(clock, b) {
         return declined(Decision::DueTick);
     }
-    if p.next == 0 {
+    if next == 0 {
         return declined(Decision::Tickets);
     }
-    if MAX_LIVE <= p.live {
+    if MAX_LIVE <= image[LIVE_COUNT_AT] {
         return declined(Decision::Room);
     }
-    answered(p, b)
+    answered(decode(image), b)
 }

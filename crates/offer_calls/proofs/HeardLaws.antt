@@ -21,10 +21,9 @@ use Rattle.decision.specs.declared.Decision.{Decision}
 use Rattle.decision.specs.declared.Decision.the-variants.{Accepted, Costs, DueIn, DueTick, Tickets, Room, Late, Delaying}
 use Rattle.admission.specs.declared.Offered.{Offered}
 use Rattle.decision.specs.Decision.{numberOf, answerOf}
-use Rattle.admission.specs.Answers.{Decides, Offers}
+use Rattle.admission.specs.Answers.{Decides, Answers}
 use Rattle.acceptance.specs.Acceptable.{Acceptable}
 use Rattle.call_results.specs.Gives.{Gives}
-use Rattle.offer_calls.specs.Answered.{Answers}
 use Rattle.offer_calls.specs.Heard.{Heard}
 
 -- The reply's bytes, as they are put.
@@ -44,10 +43,6 @@ never-one (Delaying m) e = omega arith
 same : {A : Type 0} (t : Bool) (x : A) → x ≡ cond t x x
 same true x = refl
 same false x = refl
-
--- The answer to an offer, about the state and the order that the bytes say.
-pub about : {t s : State} {b c : Block} (o : Offered) → t ≡ s → c ≡ b → Offers (blockQuestions (t .n) c ++ stateQuestions t c) t c o → Offers (blockQuestions (s .n) b ++ stateQuestions s b) s b o
-about o e f r = rw (← e, ← f) r
 
 module _ (image block reply : List ℕ) (h : Heard image block reply) where
   number-is : firstNo (blockQuestions (decode image .n) (blockOf block) ++ stateQuestions (decode image) (blockOf block)) ≡ offerNumber image block reply

@@ -1,3 +1,2 @@
 -- What is asked before the state and the order are.
 pub mod Heard
-pub mod Answered

@@ -1,19 +1,12 @@
 // Quote and offer by their parts: the first five questions, and what is done once they pass. The C interface joins them.
 ghost use mathlib.Core.Path.{_≡_};
-ghost use mathlib.Core.Bool.{true};
 ghost use mathlib.Core.List.{[], _∷_, _++_};
-ghost use lib.ListN.{length};
-ghost use Rattle.model.specs.Layout.{imageSize, blockSize};
-ghost use Rattle.model.specs.Image.{decode};
-ghost use Rattle.model.specs.Soundness.{sound};
 ghost use Rattle.model.specs.Questions.{firstNo};
-ghost use Rattle.model.specs.Admission.{blockOf, blockLengthQuestion};
+ghost use Rattle.model.specs.Admission.{blockLengthQuestion};
 ghost use Rattle.model.specs.Calls.{replyQuestion, imageQuestions, offerCall, quoteCall};
 ghost use Rattle.call_results.specs.Gives.{Gives};
 ghost use Rattle.offer_calls.specs.Heard.{Heard};
-ghost use Rattle.offer_calls.specs.Answered.{Answers};
 use acceptance::accept;
-use admission::Offered;
 use admission::offer;
 use call_results::put_reply;
 use decision::reply_of;
@@ -39,21 +32,12 @@ pub fn first_number(image: &[u8], order: &[u8], reply: &[u8]) -> u32
     0
 }
 
-// The answer to the order at the state that the image says: quote and offer alike. An order that is judged by another state
-// does not meet the promise.
-fn considered(image: &[u8], order: &[u8]) -> Offered
-    requires { ⌜ (length (now image) ≡ imageSize) × (sound (now image) ≡ true) × (length (now order) ≡ blockSize) ⌝ }
-    ensures { λ r. ⌜ Answers (decode (now (image .entry))) (blockOf (now (order .entry))) r ⌝ }
-{
-    offer(image::decode::decode(image), block_of(order))
-}
-
 // A quote once these pass. A ticket in the reply does not meet the promise.
 pub fn quoted(image: &[u8], order: &[u8], reply: &mut [u8]) -> u32
     requires { ⌜ Heard (now image) (now order) (now reply) ⌝ }
     ensures { λ r. ⌜ Gives (quoteCall (now (image .entry)) (now (order .entry)) (now (reply .entry))) r (now (image .entry)) (now (reply .exit)) ⌝ }
 {
-    let offered = considered(image, order);
+    let offered = offer(image, block_of(order));
     let decision = offered.decision;
     let given = reply_of(decision, 0);
     put_reply(
@@ -66,14 +50,14 @@ pub fn quoted(image: &[u8], order: &[u8], reply: &mut [u8]) -> u32
     given.number
 }
 
-// An offer once these pass: what the image says is carried by value only until the order is answered, and an order that is
-// accepted is written into the image. Neither a decline that writes into the image nor an acceptance that leaves it alone
+// An offer once these pass. An order that is accepted is written into the image, where it differs. Neither a decline that writes into the image nor an acceptance that leaves it alone
 // meets the promise.
 pub fn offered(image: &mut [u8], order: &[u8], reply: &mut [u8]) -> u32
     requires { ⌜ Heard (now image) (now order) (now reply) ⌝ }
     ensures { λ r. ⌜ Gives (offerCall (now (image .entry)) (now (order .entry)) (now (reply .entry))) r (now (image .exit)) (now (reply .exit)) ⌝ }
 {
-    let offered = considered(image, order);
+    let b = block_of(order);
+    let offered = offer(image, b);
     let decision = offered.decision;
     let given = reply_of(decision, u32_at(image, NEXT_AT));
     put_reply(
@@ -85,7 +69,7 @@ pub fn offered(image: &mut [u8], order: &[u8], reply: &mut [u8]) -> u32
     );
     if given.number == 0 {
         let arrival = offered.arrival;
-        accept(image, block_of(order), arrival);
+        accept(image, b, arrival);
     }
     given.number
 }

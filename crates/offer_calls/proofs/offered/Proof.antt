@@ -3,15 +3,21 @@ use mathlib.Core.Path.{_≡_, sym, ap, _∙_}
 use mir.Syntax.{w32}
 use mir.Facts.{toZ-ofZ}
 use borrow.Author.Needs.{needs}
+use Rattle.model.specs.Image.{decode}
+use Rattle.model.specs.Admission.{blockOf}
 use Rattle.decision.specs.declared.Reply.{Reply}
 use Rattle.decision.specs.Decision.{numberOf}
+use Rattle.admission.specs.Answers.{Answers}
 use Rattle.offer_calls.specs.Heard.{Heard}
 use Rattle.offer_calls.proofs.HeardLaws.{offer-declined, offer-done, acceptable, next-is}
 use Rattle.offer_calls.proofs.offered.Statement.{statement}
 use Rattle.offer_calls.proofs.offered.Tie as tie
 
-considered-requires : tie.Need-considered-requires
-considered-requires c κs = search needs
+block-of-requires : tie.Need-block-of-requires
+block-of-requires c κs = search needs
+
+offer-requires : tie.Need-offer-requires
+offer-requires c κs = search needs
 
 u32-at-requires : tie.Need-u32-at-requires
 u32-at-requires c κs = search needs
@@ -25,22 +31,23 @@ bits-requires c κs = search needs
 put-reply-requires : tie.Need-put-reply-requires
 put-reply-requires c κs = search needs
 
-block-of-requires : tie.Need-block-of-requires
-block-of-requires c κs = search needs
+heard-of : (c : tie.After-offer) → let top = c .before .before .before .before .before .before in Heard (top .args .image .now) (top .args .order .now) (top .args .reply .now)
+heard-of c = c .before .before .before .before .before .before .pre
 
-heard-of : (c : tie.After-considered) → let top = c .before .before .before .before .before in Heard (top .args .image .now) (top .args .order .now) (top .args .reply .now)
-heard-of c = c .before .before .before .before .before .pre
+-- The answer, about the order that the bytes say.
+says : (c : tie.After-offer) → let top = c .before .before .before .before .before .before in Answers (decode (top .args .image .now)) (blockOf (top .args .order .now)) (c .offer .result)
+says c = rw (c .before .before .block-of .ensures) at (c .offer .ensures)
 
 -- The number in the reply is that of the answer.
-number-is : (c : tie.After-reply-of) → c .reply-of .result .number ≡ numberOf (c .before .before .before .considered .result .decision)
+number-is : (c : tie.After-reply-of) → c .reply-of .result .number ≡ numberOf (c .before .before .before .offer .result .decision)
 number-is c = ap (λ (r : Reply). r .number) (c .reply-of .ensures)
 
 accept-requires : tie.Need-accept-requires
 accept-requires c κs =
-    let then = c .before .before .before in
+    let then = c .before .before in
     let reply-of = then .before .before .before .before .before .before .before .before in
     let answer = reply-of .before .before .before in
-    acceptable _ _ _ (heard-of answer) (answer .considered .ensures) (sym (number-is reply-of) ∙ then .if1 .taken) (c .block-of .ensures)
+    acceptable _ _ _ (heard-of answer) (says answer) (sym (number-is reply-of) ∙ then .if1 .taken) (answer .before .before .block-of .ensures)
 
 same-length : tie.Need-same-length
 same-length c = search needs
@@ -51,13 +58,13 @@ same-length-2 c = search needs
 returns : tie.Need-returns
 returns c =
     let accept = c .before .before in
-    let then = accept .before .before .before .before in
+    let then = accept .before .before .before in
     let put = then .before .before .before .before in
     let told = put .before .before in
     let reply-of = told .before .before in
     let answer = reply-of .before .before .before in
-    rw (accept .accept .ensures, accept .before .block-of .ensures, put .put-reply .ensures, put .before .bits .ensures, toZ-ofZ {w = w32} (record { sfits = told .struct-told .given .1 .1 .1 .0 .1 }), reply-of .reply-of .ensures, reply-of .before .u32-at .ensures, next-is _ _ _ (heard-of answer))
-    (offer-done _ _ _ (heard-of answer) (answer .considered .result .decision) (answer .considered .ensures .decides) (sym (number-is reply-of) ∙ then .if1 .taken))
+    rw (accept .accept .ensures, answer .before .before .block-of .ensures, put .put-reply .ensures, put .before .bits .ensures, toZ-ofZ {w = w32} (record { sfits = told .struct-told .given .1 .1 .1 .0 .1 }), reply-of .reply-of .ensures, reply-of .before .u32-at .ensures, next-is _ _ _ (heard-of answer))
+    (offer-done _ _ _ (heard-of answer) (answer .offer .result .decision) (says answer .decides) (sym (number-is reply-of) ∙ then .if1 .taken))
 
 same-length-3 : tie.Need-same-length-3
 same-length-3 c = search needs
@@ -72,18 +79,18 @@ returns-2 c =
     let reply-of = told .before .before in
     let answer = reply-of .before .before .before in
     rw (put .put-reply .ensures, put .before .bits .ensures, toZ-ofZ {w = w32} (record { sfits = told .struct-told .given .1 .1 .1 .0 .1 }), reply-of .reply-of .ensures, reply-of .before .u32-at .ensures, next-is _ _ _ (heard-of answer))
-    (offer-declined _ _ _ (heard-of answer) (answer .considered .result .decision) (answer .considered .ensures .decides) (λ e. c .if1 .left (number-is reply-of ∙ e)))
+    (offer-declined _ _ _ (heard-of answer) (answer .offer .result .decision) (says answer .decides) (λ e. c .if1 .left (number-is reply-of ∙ e)))
 
 pub offered-spec : {M : Type 1} → statement M
 offered-spec =
     tie.close
     (tie.spec
-    considered-requires
+    block-of-requires
+    offer-requires
     u32-at-requires
     reply-of-requires
     bits-requires
     put-reply-requires
-    block-of-requires
     accept-requires
     same-length
     same-length-2

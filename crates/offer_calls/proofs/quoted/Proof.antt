@@ -6,8 +6,11 @@ use Rattle.offer_calls.proofs.HeardLaws.{quote-gives}
 use Rattle.offer_calls.proofs.quoted.Statement.{statement}
 use Rattle.offer_calls.proofs.quoted.Tie as tie
 
-considered-requires : tie.Need-considered-requires
-considered-requires c κs = search needs
+block-of-requires : tie.Need-block-of-requires
+block-of-requires c κs = search needs
+
+offer-requires : tie.Need-offer-requires
+offer-requires c κs = search needs
 
 reply-of-requires : tie.Need-reply-of-requires
 reply-of-requires c κs = search needs
@@ -27,8 +30,9 @@ returns c =
     let told = put .before .before in
     let reply-of = told .before .before in
     let answer = reply-of .before in
+    let says = rw (answer .before .block-of .ensures) at (answer .offer .ensures) in
     rw (put .put-reply .ensures, put .before .bits .ensures, toZ-ofZ {w = w32} (record { sfits = told .struct-told .given .1 .1 .1 .0 .1 }), reply-of .reply-of .ensures)
-    (quote-gives _ _ _ (answer .before .before .before .before .pre) (answer .considered .result .decision) (answer .considered .ensures .decides))
+    (quote-gives _ _ _ (answer .before .before .before .before .before .pre) (answer .offer .result .decision) (says .decides))
 
 pub quoted-spec : {M : Type 1} → statement M
-quoted-spec = tie.close (tie.spec considered-requires reply-of-requires bits-requires put-reply-requires same-length returns)
+quoted-spec = tie.close (tie.spec block-of-requires offer-requires reply-of-requires bits-requires put-reply-requires same-length returns)
