@@ -1,21 +1,20 @@
-/* plan_main MOST INPUT..: plan of the library (libplan_probe.a) beside the plain C of plan.c.
+/* plan_main TABLES MOST INPUT..: plan of the library (libplan_probe.a) beside the plain C of plan.c, as gcc and as clang compile it.
  *
- * First both must print the same for each INPUT, and what the second simulator printed (the file beside it that ends in .out): the first difference ends the
- * program with status 1. Then both are timed in one run, in nanoseconds for one plan of 32 tasks at 8 stations:
+ * First all three must print the same for each INPUT, and what the second simulator printed (the file beside it that ends in .out): the first difference ends
+ * the program with status 1. Then they are timed as timing.h says, in nanoseconds for one plan of 32 tasks at 8 stations:
  *
  *   over task records   plan_probe_rounds, which plans a table over and over, each time on the records as the time before left them. The array of records
  *                       goes in and out by value (plan_array), for only Rattle code can lend a slice of records to plan. The C works on its records in place;
  *   text to text        plan_probe_text: all that the program does between reading and writing.
  *
- * Rounds of the one and of the other in turn, on each table in turn, with the stack at 16 depths, spread over 4,096 bytes; the best round of each counts at
- * each depth, and the mean over the depths. The last line has the worst ratio; the status is 1 if that is above MOST. */
-#define _POSIX_C_SOURCE 199309L
-#include "plan.h"
+ * The tables go to the file TABLES as well. The last line has the worst ratio, library time by the time of the faster C; the status is 1 if that is above
+ * MOST. */
+#include "contenders.h"
+#include "layout.h"
+#include "tables.h"
 
 #include <stdio.h>
 #include <stdlib.h>
-#include <string.h>
-#include <time.h>
 
 size_t plan_probe_text(const uint8_t *input, size_t input_len, uint8_t *out);
 uint32_t plan_probe_rounds(const uint8_t *input, size_t input_len, uint32_t rounds);
@@ -36,7 +35,7 @@ static size_t read_file(const char *name, uint8_t *bytes, size_t most)
 static void compare(const char *name)
 {
     static uint8_t input[MAX_INPUT + 1];
-    uint8_t library[MAX_OUTPUT], c[MAX_OUTPUT], stored[MAX_OUTPUT];
+    uint8_t library[MAX_OUTPUT], gcc[MAX_OUTPUT], clang[MAX_OUTPUT], stored[MAX_OUTPUT];
     char out_name[4096];
     size_t length = read_file(name, input, sizeof input), stem = strlen(name) - strlen(".in");
     if (stem + sizeof ".out" > sizeof out_name) {
@@ -45,16 +44,17 @@ static void compare(const char *name)
     }
     memcpy(out_name, name, stem);
     memcpy(out_name + stem, ".out", sizeof ".out");
-    size_t a = plan_probe_text(input, length, library), b = plain_plan_text(input, length, c), d = read_file(out_name, stored, sizeof stored);
-    if (a != b || a != d || memcmp(library, c, a) != 0 || memcmp(library, stored, a) != 0) {
-        printf("%s: the library prints\n%.*sthe C\n%.*sthe second simulator\n%.*s", name, (int)a, library, (int)b, c, (int)d, stored);
+    size_t a = plan_probe_text(input, length, library), b = gcc_plain_plan_text(input, length, gcc), c = clang_plain_plan_text(input, length, clang);
+    size_t d = read_file(out_name, stored, sizeof stored);
+    if (a != b || a != c || a != d || memcmp(library, gcc, a) != 0 || memcmp(library, clang, a) != 0 || memcmp(library, stored, a) != 0) {
+        printf("%s: the library prints\n%.*sthe C by gcc\n%.*sthe C by clang\n%.*sthe second simulator\n%.*s", name, (int)a, library, (int)b, gcc, (int)c,
+               clang, (int)d, stored);
         exit(1);
     }
 }
 
-/* A table to time on: its text, what happens, and how many plans a round has. */
+/* A standing table to time on: its text, and how many plans a round has. */
 struct subject {
-    const char *happens;
     int rounds;
     uint8_t text[MAX_INPUT];
     size_t length;
@@ -79,115 +79,77 @@ static void make_table(struct subject *s, int kind)
     s->length = at;
 }
 
-static double now(void)
-{
-    struct timespec t;
-    clock_gettime(CLOCK_MONOTONIC, &t);
-    return (double)t.tv_sec * 1e9 + (double)t.tv_nsec;
-}
+/* The C through pointers that the compiler does not see through, so that every plan is a call; nothing where the library and the memcpy would be. */
+static uint32_t (*volatile c_plan[RUNNERS])(struct task *, size_t, uint32_t) = {[GCC] = gcc_plain_plan, [CLANG] = clang_plain_plan};
+static size_t (*volatile texts[RUNNERS])(const uint8_t *, size_t, uint8_t *) = {plan_probe_text, gcc_plain_plan_text, clang_plain_plan_text};
+static void *(*volatile copy)(void *, const void *, size_t) = memcpy;
 
-/* Through a pointer that the compiler does not see through, so that every plan is a call. */
-static uint32_t (*volatile c_plan)(struct task *, size_t, uint32_t) = plain_plan;
-
-static double library_records(const struct subject *s)
+#define COPIES 200
+static double copies(void)
 {
+    static uint8_t from[IMAGE_SIZE], to[IMAGE_SIZE];
     double began = now();
-    plan_probe_rounds(s->text, s->length, (uint32_t)s->rounds);
-    return (now() - began) / s->rounds;
+    for (int i = 0; i < COPIES; i++)
+        copy(to, from, IMAGE_SIZE);
+    return (now() - began) / COPIES;
 }
 
-static double c_records(const struct subject *s)
+static double records(const void *subjects, int runner, int k)
 {
+    const struct subject *s = (const struct subject *)subjects + k;
     struct task tasks[TASKS];
     size_t count = 0;
     uint32_t n = 0;
+    if (runner == MEMCPY)
+        return copies();
     double began = now();
-    plain_read(s->text, s->length, tasks, &count, &n);
-    for (int i = 0; i < s->rounds; i++)
-        c_plan(tasks, count, n);
+    if (runner == LIBRARY) {
+        plan_probe_rounds(s->text, s->length, (uint32_t)s->rounds);
+    } else {
+        gcc_plain_read(s->text, s->length, tasks, &count, &n);
+        for (int i = 0; i < s->rounds; i++)
+            c_plan[runner](tasks, count, n);
+    }
     return (now() - began) / s->rounds;
 }
 
-static double library_text(const struct subject *s)
+static double text(const void *subjects, int runner, int k)
 {
+    const struct subject *s = (const struct subject *)subjects + k;
     uint8_t out[MAX_OUTPUT];
+    if (runner == MEMCPY)
+        return copies();
     double began = now();
     for (int i = 0; i < s->rounds; i++)
-        plan_probe_text(s->text, s->length, out);
+        texts[runner](s->text, s->length, out);
     return (now() - began) / s->rounds;
-}
-
-static double c_text(const struct subject *s)
-{
-    static size_t (*volatile text)(const uint8_t *, size_t, uint8_t *) = plain_plan_text;
-    uint8_t out[MAX_OUTPUT];
-    double began = now();
-    for (int i = 0; i < s->rounds; i++)
-        text(s->text, s->length, out);
-    return (now() - began) / s->rounds;
-}
-
-typedef double timed(const struct subject *s);
-
-/* The same with the stack so many bytes further down. */
-static double at_depth(size_t depth, timed *work, const struct subject *s)
-{
-    volatile uint8_t above[depth + 1];
-    above[depth] = 0;
-    return work(s) + above[depth];
 }
 
 #define DEPTHS 16
 #define TRIES 40
 #define KINDS 4
 
-static double worst;
-
-static void take_times(const char *what, timed *library, timed *c, const struct subject subjects[])
-{
-    double least[KINDS][DEPTHS][2];
-    for (int r = 0; r < TRIES; r++)
-        for (int d = 0; d < DEPTHS; d++)
-            for (int k = 0; k < KINDS; k++) {
-                size_t depth = (size_t)(4096 / DEPTHS * d);
-                double a = at_depth(depth, library, &subjects[k]), b = at_depth(depth, c, &subjects[k]);
-                double *l = least[k][d];
-                l[0] = r == 0 || a < l[0] ? a : l[0];
-                l[1] = r == 0 || b < l[1] ? b : l[1];
-            }
-    printf("\n%s\n%12s %12s %8s\n", what, "library ns", "C ns", "ratio");
-    for (int k = 0; k < KINDS; k++) {
-        double a = 0, b = 0;
-        for (int d = 0; d < DEPTHS; d++) {
-            a += least[k][d][0] / DEPTHS;
-            b += least[k][d][1] / DEPTHS;
-        }
-        printf("%12.1f %12.1f %8.2f  %s\n", a, b, a / b, subjects[k].happens);
-        worst = a / b > worst ? a / b : worst;
-    }
-    fflush(stdout);
-}
-
 int main(int argc, char **argv)
 {
-    static struct subject subjects[KINDS] = {
-        {.happens = "on time, one step a task", .rounds = 50},
-        {.happens = "on time, many steps", .rounds = 4},
-        {.happens = "late, no step", .rounds = 200},
-        {.happens = "declined by 18", .rounds = 200},
-    };
-    if (argc < 3) {
-        printf("usage: plan_main MOST INPUT..\n");
+    static struct subject subjects[KINDS] = {{.rounds = 50}, {.rounds = 4}, {.rounds = 200}, {.rounds = 200}};
+    static char labels[KINDS][64] = {"on time, one step a task", "on time, many steps", "late, no step", "declined by 18"};
+    double mean[KINDS][RUNNERS], worst = 0;
+    if (argc < 4) {
+        printf("usage: plan_main TABLES MOST INPUT..\n");
         return 2;
     }
-    for (int i = 2; i < argc; i++)
+    for (int i = 3; i < argc; i++)
         compare(argv[i]);
-    printf("plan: the library, the C and the second simulator print the same for %d inputs\n", argc - 2);
+    printf("plan: the library, the C by gcc and by clang, and the second simulator print the same for %d inputs\n", argc - 3);
+    write_tables_to(argv[1]);
     for (int k = 0; k < KINDS; k++)
         make_table(&subjects[k], k);
-    take_times("plan over task records, 32 tasks at 8 stations", library_records, c_records, subjects);
-    take_times("plan, text to text, 32 tasks at 8 stations", library_text, c_text, subjects);
-    double most = atof(argv[1]);
+    take_times(mean, records, subjects, KINDS, DEPTHS, TRIES);
+    worst = print_times("plan over task records, 32 tasks at 8 stations", "what happens", labels, mean, KINDS);
+    take_times(mean, text, subjects, KINDS, DEPTHS, TRIES);
+    double ratio = print_times("plan, text to text, 32 tasks at 8 stations", "what happens", labels, mean, KINDS);
+    worst = ratio > worst ? ratio : worst;
+    double most = atof(argv[2]);
     if (worst > most)
         printf("above %.2f\n", most);
     printf("plan: worst ratio %.2f\n", worst);

@@ -66,6 +66,14 @@
  * or a wrong value gets a number and nothing else happens. No call reads or writes outside the buffers that it is lent, and every call
  * returns. With a length of 0 the pointer may be anything, NULL included; it is not used.
  *
+ * THE STACK
+ *
+ * A call needs no more stack than DISPATCHER_OPEN_STACK, DISPATCHER_QUOTE_STACK, DISPATCHER_OFFER_STACK or DISPATCHER_ADVANCE_STACK bytes (below), whatever the
+ * buffers hold. They are counted from the caller's stack pointer before the call, so the return address is in them, and the caller's own frame is not. The
+ * figures are for the library as this toolchain builds it: the depth that its instructions can reach, rounded up to whole 256 bytes. Of the C library's four
+ * functions, each is counted with 128 bytes and its return address. What an interrupt puts on the same stack comes on top, and so does what a dynamic linker
+ * takes if it looks for one of these functions on its first use.
+ *
  * WHAT THE CALLER SEES TO
  *
  * - A pointer with a length above 0 points to that many bytes, which may be read. Where the pointer is not to const, they may be written as well.
@@ -110,6 +118,12 @@ extern "C" {
 
 /* The last tick of the clock: some twelve years and eight months after the cabinet was opened. */
 #define DISPATCHER_LAST_TICK 4000000000u
+
+/* Bytes of stack that a call needs at most. */
+#define DISPATCHER_OPEN_STACK 256
+#define DISPATCHER_QUOTE_STACK 4608
+#define DISPATCHER_OFFER_STACK 6656
+#define DISPATCHER_ADVANCE_STACK 8704
 
 /* The numbers that the calls below return. */
 #define DISPATCHER_DONE 0             /* the call is done */

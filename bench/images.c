@@ -1,0 +1,87 @@
+#include "images.h"
+#include "codec.h"
+#include "dispatcher.h"
+
+#include <stdio.h>
+#include <stdlib.h>
+
+void sound_image(uint8_t *image, int live)
+{
+    struct cabinet c;
+    memset(&c, 0, sizeof c);
+    c.n = 8;
+    c.live = (uint8_t)live;
+    c.clock = 123456789;
+    c.next = 4000000000u + (uint32_t)live;
+    for (int i = 0; i < live; i++) {
+        struct order *o = &c.orders[i];
+        o->ticket = 4000000000u - 7 + (uint32_t)i;
+        o->accepted = c.clock - 1000 + (uint32_t)i;
+        o->due = o->accepted + 60000 - (uint32_t)i;
+        o->sum = 9000 + 100 * (uint32_t)i;
+        o->station = (uint8_t)(1 + i / 4);
+        for (int j = 0; j < STATIONS; j++) {
+            o->ranks[j] = (uint8_t)(37 * i + 11 * j);
+            o->costs[j] = (uint16_t)(1 + (1237 * i + 311 * j) % 6000);
+            o->maxima[j] = 6000;
+        }
+        if (i % 4 == 0) {
+            c.services[i / 4].ticket = o->ticket;
+            c.services[i / 4].left = o->costs[i / 4];
+        }
+    }
+    encode(image, &c);
+}
+
+void make_order(uint8_t *order, int i)
+{
+    put4(order, 60000);
+    for (int j = 0; j < STATIONS; j++) {
+        order[4 + j] = (uint8_t)(37 * i + 11 * j);
+        put2(order + 12 + 2 * j, (uint16_t)(50 + (37 * i + 61 * j) % 151));
+    }
+}
+
+void counter_image(uint8_t *image, uint8_t *order, int live)
+{
+    uint8_t reply[REPLY_SIZE];
+    uint32_t number = dispatcher_open(image, IMAGE_SIZE, STATIONS, reply, REPLY_SIZE);
+    for (int i = 0; i < live; i++) {
+        make_order(order, i);
+        number += dispatcher_offer(image, IMAGE_SIZE, order, ORDER_SIZE, reply, REPLY_SIZE);
+        for (int k = 0; k < 600 / live; k++)
+            number += dispatcher_advance(image, IMAGE_SIZE, reply, REPLY_SIZE);
+    }
+    if (number != 0 || image[6] != live) {
+        printf("%d orders were to be live, and %d are\n", live, image[6]);
+        exit(1);
+    }
+    make_order(order, live);
+}
+
+void tick_image(uint8_t *image, int live, uint16_t left, uint16_t last_left)
+{
+    struct cabinet c;
+    memset(&c, 0, sizeof c);
+    c.n = 8;
+    c.live = (uint8_t)live;
+    c.clock = 123456789;
+    c.next = 1000 + (uint32_t)live;
+    for (int i = live - 1; i >= 0; i--) {
+        struct order *o = &c.orders[i];
+        o->ticket = 1000 + (uint32_t)i;
+        o->accepted = c.clock - 1000 + (uint32_t)i;
+        o->due = o->accepted + 60000;
+        o->sum = 200 * (uint32_t)live;
+        o->station = (uint8_t)(8 - 8 * i / live);
+        for (int j = 0; j < STATIONS; j++) {
+            o->ranks[j] = (uint8_t)(37 * i + 11 * j);
+            o->costs[j] = (uint16_t)(50 + (37 * i + 61 * j) % 151);
+            o->maxima[j] = 200;
+        }
+        struct service *s = &c.services[o->station - 1];
+        s->left = o->station < 8 ? left : last_left;
+        s->ticket = s->left > 0 ? o->ticket : 0;
+    }
+    encode(image, &c);
+}

@@ -1,0 +1,210 @@
+/* stack LIST..: how much stack each call of the library uses, measured.
+ *
+ * A call is made on a stack of its own, which was painted before: every byte of it has the same value. What is below the lowest byte that has another value
+ * after the call was not used. A byte that is written with the value of the paint would not be seen, so each call is made twice, on copies of the same buffers,
+ * with two paints. Nothing else runs on that stack, so nothing has to be taken off: what is counted begins with the return address of the call.
+ *
+ * The calls are those of bench/extremes.h, the lists of the second simulator (bench/lists.h), and wrong lengths. It fails if a number of a call does not occur,
+ * or if number, reply or image of a listed call are not those of the simulator. It prints for each call how many were made and the most bytes that one used. */
+#define _DEFAULT_SOURCE
+#include "dispatcher.h"
+#include "extremes.h"
+#include "lists.h"
+
+#include <stdio.h>
+#include <stdlib.h>
+#include <sys/mman.h>
+
+#define NUMBERS 15
+#define STACK 65536 /* bytes; below them is a page that may not be touched */
+#define PAGE 4096
+#define STRIP 256 /* bytes that are looked at together */
+
+static uint8_t *stack; /* its lowest byte */
+
+/* Makes a call with six arguments, the stack pointer at `top` before it. The registers that a call leaves alone hold where to go back to. */
+uint32_t call_on_stack(uint8_t *top, const void *call, const uint64_t arguments[6]);
+__asm__(".text\n"
+        ".type call_on_stack, @function\n"
+        "call_on_stack:\n"
+        "    pushq %rbp\n"
+        "    movq %rsp, %rbp\n"
+        "    movq %rdi, %rsp\n"
+        "    movq %rsi, %rax\n"
+        "    movq %rdx, %r10\n"
+        "    movq (%r10), %rdi\n"
+        "    movq 8(%r10), %rsi\n"
+        "    movq 16(%r10), %rdx\n"
+        "    movq 24(%r10), %rcx\n"
+        "    movq 32(%r10), %r8\n"
+        "    movq 40(%r10), %r9\n"
+        "    callq *%rax\n"
+        "    movq %rbp, %rsp\n"
+        "    popq %rbp\n"
+        "    retq\n"
+        ".size call_on_stack, .-call_on_stack\n");
+
+/* One call: buffers and lengths. The order block is that of a quote or an offer. */
+struct arguments {
+    int call;
+    struct bytes image, reply;
+    const uint8_t *order;
+    size_t order_length;
+    uint32_t stations;
+};
+
+static unsigned long made[CALLS], seen[CALLS][NUMBERS];
+static size_t most[CALLS];
+static char deepest[CALLS][200];
+
+/* Makes the call on a stack painted so, and gives how many bytes of it were used. */
+static size_t used_by(struct arguments *a, uint8_t paint, uint32_t *number)
+{
+    uint64_t image = (uintptr_t)a->image.at, reply = (uintptr_t)a->reply.at, order = (uintptr_t)a->order;
+    const uint64_t open_arguments[6] = {image, a->image.length, a->stations, reply, a->reply.length};
+    const uint64_t order_arguments[6] = {image, a->image.length, order, a->order_length, reply, a->reply.length};
+    const uint64_t advance_arguments[6] = {image, a->image.length, reply, a->reply.length};
+    uint8_t painted[STRIP];
+    memset(stack, paint, STACK);
+    memset(painted, paint, STRIP);
+    uint8_t *top = stack + STACK;
+    switch (a->call) {
+    case OPEN: *number = call_on_stack(top, (const void *)(uintptr_t)dispatcher_open, open_arguments); break;
+    case QUOTE: *number = call_on_stack(top, (const void *)(uintptr_t)dispatcher_quote, order_arguments); break;
+    case OFFER: *number = call_on_stack(top, (const void *)(uintptr_t)dispatcher_offer, order_arguments); break;
+    default: *number = call_on_stack(top, (const void *)(uintptr_t)dispatcher_advance, advance_arguments);
+    }
+    size_t unused = 0;
+    while (unused < STACK && memcmp(stack + unused, painted, STRIP) == 0)
+        unused += STRIP;
+    while (unused < STACK && stack[unused] == paint)
+        unused++;
+    return STACK - unused;
+}
+
+/* Makes the call twice; `a` has the buffers as they are after it. Gives the number. */
+static uint32_t measure(struct arguments *a, const char *what)
+{
+    static struct arguments again;
+    uint32_t number, second;
+    again.image = a->image;
+    again.reply = a->reply;
+    again.call = a->call;
+    again.order = a->order;
+    again.order_length = a->order_length;
+    again.stations = a->stations;
+    size_t used = used_by(a, 0xa5, &number), used_again = used_by(&again, 0x5a, &second);
+    used = used_again > used ? used_again : used;
+    if (number != second || number >= NUMBERS) {
+        printf("%s: number %lu, then %lu\n", what, (unsigned long)number, (unsigned long)second);
+        exit(1);
+    }
+    made[a->call]++;
+    seen[a->call][number]++;
+    if (used > most[a->call]) {
+        most[a->call] = used;
+        snprintf(deepest[a->call], sizeof deepest[0], "number %lu: %s", (unsigned long)number, what);
+    }
+    return number;
+}
+
+static struct arguments arguments;
+
+static void set(struct bytes *b, const uint8_t *bytes, size_t length)
+{
+    memset(b->at, 0, IMAGE_SIZE + 1);
+    memcpy(b->at, bytes, length < IMAGE_SIZE ? length : IMAGE_SIZE);
+    b->length = length;
+}
+
+static uint32_t one(int call, const struct extreme *e, size_t image_length, size_t order_length, size_t reply_length, uint32_t stations)
+{
+    static const uint8_t reply[REPLY_SIZE + 1];
+    arguments.call = call;
+    set(&arguments.image, e->image, image_length);
+    set(&arguments.reply, reply, reply_length);
+    arguments.order = e->order;
+    arguments.order_length = order_length;
+    arguments.stations = stations;
+    return measure(&arguments, e->what);
+}
+
+static void damaged_image(const struct extreme *e)
+{
+    for (int call = QUOTE; call <= ADVANCE; call++)
+        one(call, e, IMAGE_SIZE, ORDER_SIZE, REPLY_SIZE, 0);
+}
+
+static void sound_image(const struct extreme *e)
+{
+    for (int call = QUOTE; call <= ADVANCE; call++) {
+        uint32_t number = one(call, e, IMAGE_SIZE, ORDER_SIZE, REPLY_SIZE, 0);
+        if (number >= 1 && number <= 4) {
+            printf("%s: %s was declined by %lu\n", e->what, call_names[call], (unsigned long)number);
+            exit(1);
+        }
+    }
+}
+
+/* Lengths that are one off, or 0, and every number of stations that a byte has. */
+static void lengths_and_stations(void)
+{
+    static const size_t images[] = {0, IMAGE_SIZE - 1, IMAGE_SIZE, IMAGE_SIZE + 1}, orders[] = {0, ORDER_SIZE - 1, ORDER_SIZE, ORDER_SIZE + 1},
+                        replies[] = {0, REPLY_SIZE - 1, REPLY_SIZE, REPLY_SIZE + 1};
+    static struct extreme e = {.what = "a fresh image, lengths one off or 0", .image = {'W', 'M', 'C', 1, 0, 8, 0, 0, 0, 0, 0, 0, 1}};
+    for (int call = OPEN; call < CALLS; call++)
+        for (int k = 0; k < 64; k++)
+            one(call, &e, images[k % 4], orders[k / 4 % 4], replies[k / 16], 8);
+    strcpy(e.what, "open, 0 to 256 stations");
+    for (uint32_t stations = 0; stations <= 256; stations++)
+        one(OPEN, &e, IMAGE_SIZE, 0, REPLY_SIZE, stations);
+}
+
+static void listed_call(const struct listed *l, struct bytes *image)
+{
+    arguments.call = l->call;
+    arguments.image = *image;
+    arguments.reply = l->reply;
+    arguments.order = l->argument.at;
+    arguments.order_length = l->argument.length;
+    arguments.stations = l->stations;
+    uint32_t number = measure(&arguments, "a list of the second simulator");
+    if (!as_told(l, number, &arguments.reply, &arguments.image))
+        list_fail("the simulator gives another number, reply or image");
+    *image = arguments.image;
+}
+
+/* The numbers that a call can give. */
+static int gives(int call, int number)
+{
+    switch (call) {
+    case OPEN: return number <= 2 || number == 14;
+    case ADVANCE: return number <= 4 || number == 13;
+    default: return number <= 12;
+    }
+}
+
+int main(int argc, char **argv)
+{
+    uint8_t *whole = mmap(NULL, PAGE + STACK, PROT_NONE, MAP_PRIVATE | MAP_ANONYMOUS, -1, 0);
+    if (whole == MAP_FAILED || mprotect(whole + PAGE, STACK, PROT_READ | PROT_WRITE) != 0) {
+        printf("no memory for a stack\n");
+        return 1;
+    }
+    stack = whole + PAGE;
+    unsigned long sound = each_sound(sound_image), damaged = each_damaged(damaged_image), listed = 0;
+    lengths_and_stations();
+    for (int k = 1; k < argc; k++)
+        listed += each_call(argv[k], listed_call);
+    printf("quote, offer and advance on %lu sound and %lu damaged images; %d lists with %lu images\n", sound, damaged, argc - 1, listed);
+    for (int call = OPEN; call < CALLS; call++) {
+        for (int number = 0; number < NUMBERS; number++)
+            if (gives(call, number) != (seen[call][number] > 0)) {
+                printf("%s: number %d was given %lu times\n", call_names[call], number, seen[call][number]);
+                return 1;
+            }
+        printf("measured %s %lu %lu\n", call_names[call], (unsigned long)most[call], made[call]);
+        printf("    the deepest has %s\n", deepest[call]);
+    }
+    return 0;
+}
