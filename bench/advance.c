@@ -42,6 +42,7 @@ static uint32_t ask(const uint8_t *image, size_t image_len, uint32_t serves[STAT
         uint16_t costs[STATIONS], maxima[STATIONS], most = sum < UINT16_MAX ? (uint16_t)sum : UINT16_MAX; /* a cost is at most the sum */
         memcpy(costs, record + COSTS, sizeof costs);
         memcpy(maxima, record + MAXIMA, sizeof maxima);
+        NOT_UNROLLED
         for (int j = 0; j < STATIONS; j++)
             flaws[j] |= (costs[j] < l.least[j]) | (costs[j] > most) | (maxima[j] < costs[j]) | (maxima[j] > l.most[j]);
         if ((int64_t)(due - accepted) - sum < counted(maxima, &l))

@@ -24,6 +24,7 @@ struct newcomer {
 static inline int costs_fit(const uint16_t costs[STATIONS], const struct limits *l)
 {
     uint16_t bad = 0;
+    NOT_UNROLLED
     for (int j = 0; j < STATIONS; j++)
         bad |= (costs[j] < l->least[j]) | (costs[j] > l->most[j]);
     return bad == 0;
@@ -79,6 +80,7 @@ static uint32_t consider(const uint8_t *image, size_t image_len, const uint8_t *
         uint16_t costs[STATIONS], maxima[STATIONS], joined[STATIONS];
         memcpy(costs, record + COSTS, sizeof costs);
         memcpy(maxima, record + MAXIMA, sizeof maxima);
+        NOT_UNROLLED
         for (int j = 0; j < STATIONS; j++) {
             flaws[j] |= (costs[j] < l.least[j]) | (maxima[j] < costs[j]) | (maxima[j] > l.most[j]);
             c->maxima[j] = larger(c->maxima[j], costs[j]);
@@ -142,6 +144,7 @@ static void accept(uint8_t *image, const uint8_t *order, const struct newcomer *
     for (uint32_t k = 0; k < live; k++, record += RECORD_SIZE) {
         uint16_t maxima[STATIONS];
         memcpy(maxima, record + MAXIMA, sizeof maxima);
+        NOT_UNROLLED
         for (int j = 0; j < STATIONS; j++)
             maxima[j] = larger(maxima[j], c->costs[j]);
         memcpy(record + MAXIMA, maxima, sizeof maxima);

@@ -1,10 +1,18 @@
-/* Records of an image where they stand, and their rows of eight numbers, for counter.c and advance.c. Rows are gone through without a branch, so that gcc can
- * make a few vector instructions of each (bench/run says what it has to be told for that). What the two ask of the front of an image and of a record's numbers
- * stands in each of them: taken out into functions here, it cost the passes 5 to 10 % of their time with gcc 12, and the library is held to the faster C. */
+/* Records of an image where they stand, and their rows of eight numbers, for counter.c and advance.c. Rows are gone through without a branch, so that a
+ * compiler can make a few vector instructions of each (NOT_UNROLLED). What the two ask of the front of an image and of a record's numbers stands in each of
+ * them: taken out into functions here, it cost the passes 5 to 10 % of their time with gcc 12, and the library is held to the faster C. */
 #ifndef RECORDS_H
 #define RECORDS_H
 
 #include "layout.h"
+
+/* Before a loop over a row. Without it -O3 unrolls the loop before it looks whether it can be done by vector instructions, and then it cannot: with gcc 12
+ * quote and offer take two to three times as long, with clang 14 one and a half times. */
+#ifdef __clang__
+#define NOT_UNROLLED _Pragma("clang loop unroll(disable)")
+#else
+#define NOT_UNROLLED _Pragma("GCC unroll 1")
+#endif
 
 #define MOST_COST 6000
 #define MOST_DUE_IN 60000
@@ -23,6 +31,7 @@ struct limits {
 static inline struct limits limits_for(uint16_t n)
 {
     struct limits l;
+    NOT_UNROLLED
     for (uint16_t j = 0; j < STATIONS; j++) {
         l.least[j] = j < n ? 1 : 0;
         l.most[j] = j < n ? MOST_COST : 0;
@@ -39,6 +48,7 @@ static inline uint16_t larger(uint16_t a, uint16_t b)
 static inline uint16_t largest(const uint16_t row[STATIONS])
 {
     uint16_t most = 0;
+    NOT_UNROLLED
     for (int j = 0; j < STATIONS; j++)
         most = larger(most, row[j]);
     return most;
@@ -48,6 +58,7 @@ static inline uint16_t largest(const uint16_t row[STATIONS])
 static inline uint32_t counted(const uint16_t maxima[STATIONS], const struct limits *l)
 {
     uint32_t sum = 0;
+    NOT_UNROLLED
     for (int j = 0; j < STATIONS; j++)
         sum += maxima[j] & l->counted[j];
     return sum;
