@@ -70,9 +70,9 @@
  *
  * A call needs no more stack than DISPATCHER_OPEN_STACK, DISPATCHER_QUOTE_STACK, DISPATCHER_OFFER_STACK or DISPATCHER_ADVANCE_STACK bytes (below), whatever the
  * buffers hold. They are counted from the caller's stack pointer before the call, so the return address is in them, and the caller's own frame is not. The
- * figures are for the library as this toolchain builds it: the depth that its instructions can reach, rounded up to whole 256 bytes. Of the C library's four
- * functions, each is counted with 128 bytes and its return address. What an interrupt puts on the same stack comes on top, and so does what a dynamic linker
- * takes if it looks for one of these functions on its first use.
+ * figures are for the library as the Rattle toolchain builds it for x86-64: the depth that its instructions can reach, rounded up to whole 256 bytes. Each of
+ * the four functions of the C library is counted with its return address and 128 bytes. What an interrupt puts on the same stack comes on top, and so does what
+ * a dynamic linker takes if it looks for one of these functions on its first use.
  *
  * WHAT THE CALLER SEES TO
  *
