@@ -16,6 +16,21 @@
 #define OTHER_PAGES 4096
 #define STACK_BELOW 32768 /* bytes below this program's frames: more than a call uses */
 
+/* The return address is put in the place of the one that the processor has in mind, which leads to a loop that is never gone into. */
+entry *unguessed_to;
+__asm__(".text\n"
+        ".globl unguessed\n"
+        ".type unguessed, @function\n"
+        "unguessed:\n"
+        "    movq unguessed_to(%rip), %r11\n"
+        "    callq 1f\n"
+        "0:  pause\n"
+        "    lfence\n"
+        "    jmp 0b\n"
+        "1:  movq %r11, (%rsp)\n"
+        "    retq\n"
+        ".size unguessed, .-unguessed\n");
+
 static double by_nanosecond, reading_counter;
 
 int stay_on_one_processor(void)

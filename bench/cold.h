@@ -32,8 +32,13 @@ static inline uint64_t counter_after(void)
 double nanoseconds(uint64_t before, uint64_t after);
 
 /* Takes everything out of the caches that a call needs: the program with the library in it (code, constants and all buffers), the stack, and memcpy, memset,
- * memmove and memcmp; and the addresses of other pages into the place of these. What the processor fetches ahead, the first instructions of the call, may be
- * back by then. */
+ * memmove and memcmp; and the addresses of other pages into the place of these. */
 void make_cold(void);
+
+/* A call of `unguessed` goes on to `unguessed_to` with all its arguments, and the processor cannot guess where that is. Otherwise it would fetch the first
+ * instructions of a cold call ahead, while the time is not taken yet. */
+typedef void entry(void);
+extern entry *unguessed_to;
+void unguessed(void);
 
 #endif

@@ -40,33 +40,52 @@ static struct subject slowest[CALLS][ENDS];
 /* What the library works on. */
 static uint8_t image[IMAGE_SIZE], reply[REPLY_SIZE];
 
+typedef uint32_t open_call(uint8_t *, size_t, uint32_t, uint8_t *, size_t);
+typedef uint32_t quote_call(const uint8_t *, size_t, const uint8_t *, size_t, uint8_t *, size_t);
+typedef uint32_t offer_call(uint8_t *, size_t, const uint8_t *, size_t, uint8_t *, size_t);
+typedef uint32_t advance_call(uint8_t *, size_t, uint8_t *, size_t);
+
+/* Where a call begins. */
+static entry *const entries[CALLS] = {
+    [OPEN] = (entry *)dispatcher_open,
+    [QUOTE] = (entry *)dispatcher_quote,
+    [OFFER] = (entry *)dispatcher_offer,
+    [ADVANCE] = (entry *)dispatcher_advance,
+};
+
 /* Nanoseconds of one call on copies of the subject's buffers. */
 static double time_call(struct subject *s, int cold)
 {
+    open_call *open = cold ? (open_call *)unguessed : dispatcher_open;
+    quote_call *quote = cold ? (quote_call *)unguessed : dispatcher_quote;
+    offer_call *offer = cold ? (offer_call *)unguessed : dispatcher_offer;
+    advance_call *advance = cold ? (advance_call *)unguessed : dispatcher_advance;
     uint64_t before, after;
     memcpy(image, s->image, IMAGE_SIZE);
     memcpy(reply, s->reply, REPLY_SIZE);
-    if (cold)
+    if (cold) {
         make_cold();
+        unguessed_to = entries[s->call];
+    }
     switch (s->call) {
     case OPEN:
         before = counter_before();
-        s->number = dispatcher_open(image, IMAGE_SIZE, s->stations, reply, REPLY_SIZE);
+        s->number = open(image, IMAGE_SIZE, s->stations, reply, REPLY_SIZE);
         after = counter_after();
         break;
     case QUOTE:
         before = counter_before();
-        s->number = dispatcher_quote(image, IMAGE_SIZE, s->order, ORDER_SIZE, reply, REPLY_SIZE);
+        s->number = quote(image, IMAGE_SIZE, s->order, ORDER_SIZE, reply, REPLY_SIZE);
         after = counter_after();
         break;
     case OFFER:
         before = counter_before();
-        s->number = dispatcher_offer(image, IMAGE_SIZE, s->order, ORDER_SIZE, reply, REPLY_SIZE);
+        s->number = offer(image, IMAGE_SIZE, s->order, ORDER_SIZE, reply, REPLY_SIZE);
         after = counter_after();
         break;
     default:
         before = counter_before();
-        s->number = dispatcher_advance(image, IMAGE_SIZE, reply, REPLY_SIZE);
+        s->number = advance(image, IMAGE_SIZE, reply, REPLY_SIZE);
         after = counter_after();
     }
     return nanoseconds(before, after);
