@@ -150,7 +150,7 @@ static void time_table(struct table *t)
         compare(t, t->subjects[k].image, t->subjects[k].order, t->subjects[k].number, t->labels[k]);
     t->clock = reading();
     take_times(t->mean, timed, t, t->count, DEPTHS, ROUNDS);
-    double ratio = print_times(t->title, "live orders", t->labels, t->mean, t->count);
+    double ratio = print_times(t->title, "live orders, what happens", t->labels, t->mean, t->count);
     worst = ratio > worst ? ratio : worst;
 }
 
@@ -162,7 +162,7 @@ static void say_each(const struct table *t, int a, int b, int c, int live_a, int
         more[0][runner] = (t->mean[b][runner] - t->mean[a][runner]) / (live_b - live_a);
         more[1][runner] = (t->mean[c][runner] - t->mean[b][runner]) / (live_c - live_b);
     }
-    say("\nEach live order adds, from %d to %d and from %d to %d: library %.2f and %.2f ns, gcc %.2f and %.2f ns, clang %.2f and %.2f ns.\n", live_a, live_b,
+    say("\nEach live order adds, from %d to %d and from %d to %d:\nlibrary %.2f and %.2f ns, gcc %.2f and %.2f ns, clang %.2f and %.2f ns.\n", live_a, live_b,
         live_b, live_c, more[0][LIBRARY], more[1][LIBRARY], more[0][GCC], more[1][GCC], more[0][CLANG], more[1][CLANG]);
 }
 
@@ -197,7 +197,7 @@ static void open_calls(void)
 {
     static struct table t = {"open, 8 stations", {library_open, gcc_open, clang_open, copy_image}, .batch = COPIES, .count = 1};
     counter_image(t.subjects[0].image, t.subjects[0].order, 8);
-    strcpy(t.labels[0], "done (0)");
+    strcpy(t.labels[0], "any number, done (0)");
     time_table(&t);
 }
 
