@@ -103,6 +103,7 @@ pub fn offer(image: &[u8], b: Block) -> Offered
 {
     let clock = u32_at(image, CLOCK_AT);
     let next = u32_at(image, NEXT_AT);
+    let live = image[LIVE_COUNT_AT];
     if !order_block::fits(wide32(image[STATION_COUNT_AT]), b) {
         return declined(Decision::Costs);
     }
@@ -115,7 +116,7 @@ pub fn offer(image: &[u8], b: Block) -> Offered
     if next == 0 {
         return declined(Decision::Tickets);
     }
-    if MAX_LIVE <= image[LIVE_COUNT_AT] {
+    if MAX_LIVE <= live {
         return declined(Decision::Room);
     }
     answered(decode(image), b)

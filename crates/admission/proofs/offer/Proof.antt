@@ -42,7 +42,7 @@ live-is image = sym (length-upward 0 (liveCount image) (λ i. orderOf (recordPar
 
 -- What has been asked so far, from the last question back.
 abbrev start-of : tie.After-fits2 → tie.Start
-start-of c = c .before .before .before .before .before .before
+start-of c = c .before .before .before .before .before .before .before
 
 abbrev fits-of : tie.Else2 → tie.After-fits2
 fits-of c = c .before .before .before
@@ -51,7 +51,7 @@ abbrev else2-of : tie.Else4 → tie.Else2
 else2-of c = c .before .before .before .before
 
 bytes-of : (c : tie.After-fits2) → Below byteLimit (start-of c .args .image .now)
-bytes-of c i = c .before .before .before .before .before .shared-slice-known .given i .fits
+bytes-of c i = c .before .before .before .before .before .before .shared-slice-known .given i .fits
 
 -- Question 6 by its test, either way.
 block-is : (c : tie.After-fits2) (t : Bool) → not (c .fits2 .result) ≡ t → Block-is (decode (start-of c .args .image .now)) (start-of c .args .b) (not t)
@@ -65,11 +65,11 @@ due-in-passes : (c : tie.Else2) → leb (start-of (fits-of c) .args .b .«due_in
 due-in-passes c = le-leb (start-of (fits-of c) .args .b .«due_in») maxDueIn (omega (arith, c .before .wide64 .ensures, c .if2 .left))
 
 -- The due tick that is tested is the order's at the state's clock, and the ticket the state's next.
-due-is : (c : tie.After-fits2) → dueOf (c .before .before .before .before .u32-at .result) (start-of c .args .b) ≡ dueOf (decode (start-of c .args .image .now) .clock) (start-of c .args .b)
-due-is c = ap (λ (k : ℕ). dueOf k (start-of c .args .b)) (c .before .before .before .before .u32-at .ensures ∙ clock-is (start-of c .args .image .now))
+due-is : (c : tie.After-fits2) → dueOf (c .before .before .before .before .before .u32-at .result) (start-of c .args .b) ≡ dueOf (decode (start-of c .args .image .now) .clock) (start-of c .args .b)
+due-is c = ap (λ (k : ℕ). dueOf k (start-of c .args .b)) (c .before .before .before .before .before .u32-at .ensures ∙ clock-is (start-of c .args .image .now))
 
-ticket-is : (c : tie.After-fits2) → c .before .before .before .u32-at2 .result ≡ decode (start-of c .args .image .now) .next
-ticket-is c = c .before .before .before .u32-at2 .ensures ∙ next-is (start-of c .args .image .now)
+ticket-is : (c : tie.After-fits2) → c .before .before .before .before .u32-at2 .result ≡ decode (start-of c .args .image .now) .next
+ticket-is c = c .before .before .before .before .u32-at2 .ensures ∙ next-is (start-of c .args .image .now)
 
 due-tick-passes : (c : tie.Else3) → let top = start-of (fits-of (c .before .before .before)) in leb (dueOf (decode (top .args .image .now) .clock) (top .args .b)) lastTick ≡ true
 due-tick-passes c =
@@ -82,9 +82,9 @@ ticket-passes c =
     let fits = fits-of (else2-of c) in
     le-leb 1 (decode (start-of fits .args .image .now) .next) (omega (arith, ticket-is fits, c .if4 .left))
 
-room-passes : (c : tie.Else5) → ltb (length (decode (start-of (fits-of (else2-of (c .before .before))) .args .image .now) .orders)) maxLive ≡ true
+room-passes : (c : tie.Else5) → ltb (length (decode (start-of (fits-of (else2-of (c .before))) .args .image .now) .orders)) maxLive ≡ true
 room-passes c =
-    let image = start-of (fits-of (else2-of (c .before .before))) .args .image .now in
+    let image = start-of (fits-of (else2-of (c .before))) .args .image .now in
     lt-ltb (length (decode image .orders)) maxLive (omega (arith, live-is image, c .if5 .left))
 
 u32-at-requires : tie.Need-u32-at-requires
@@ -92,6 +92,9 @@ u32-at-requires c κs = search needs
 
 u32-at-requires-2 : tie.Need-u32-at-requires-2
 u32-at-requires-2 c κs = search needs
+
+shared-slice-read-live : tie.Need-shared-slice-read-live
+shared-slice-read-live c = search needs
 
 shared-slice-read-wide32 : tie.Need-shared-slice-read-wide32
 shared-slice-read-wide32 c = search needs
@@ -146,15 +149,12 @@ returns-4 c =
     subst (Offers _ _ _) (sym (c .declined4 .ensures))
     (tickets-no _ _ (block-passes (else2 .before .before)) (due-in-passes else2) (due-tick-passes else3) (lt-leb 1 (decode (start-of (fits-of else2) .args .image .now) .next) (omega (arith, ticket-is (fits-of else2), c .before .if4 .taken))))
 
-shared-slice-read-if5 : tie.Need-shared-slice-read-if5
-shared-slice-read-if5 c = search needs
-
 declined-requires-5 : tie.Need-declined-requires-5
 declined-requires-5 c κs = search needs
 
 returns-5 : tie.Need-returns-5
 returns-5 c =
-    let else4 = c .before .before .before in
+    let else4 = c .before .before in
     let else2 = else2-of else4 in
     let image = start-of (fits-of else2) .args .image .now in
     subst (Offers _ _ _) (sym (c .declined5 .ensures))
@@ -162,7 +162,7 @@ returns-5 c =
 
 decode-requires : tie.Need-decode-requires
 decode-requires c κs =
-    let fits = fits-of (else2-of (c .before .before)) in
+    let fits = fits-of (else2-of (c .before)) in
     readable _ (bytes-of fits) (start-of fits .pre .1) (start-of fits .pre .0)
 
 -- A sound state has no more stations than a block has costs.
@@ -171,27 +171,27 @@ enough c =
     let long : length (start-of c .args .b .costs) ≡ 8 = search needs in
     omega (arith, sound-gives (start-of c .args .image .now) (bytes-of c) (start-of c .pre .1) .facts .n-high, long)
 
-fits-in : (c : tie.Else5) → let top = start-of (fits-of (else2-of (c .before .before))) in Fitting (decode (top .args .image .now)) (top .args .b)
+fits-in : (c : tie.Else5) → let top = start-of (fits-of (else2-of (c .before))) in Fitting (decode (top .args .image .now)) (top .args .b)
 fits-in c =
-    let else4 = c .before .before in
+    let else4 = c .before in
     let else2 = else2-of else4 in
     fitting _ _ (enough (fits-of else2)) (block-passes (else2 .before .before)) (due-in-passes else2) (due-tick-passes (else4 .before)) (ticket-passes else4) (room-passes c)
 
 -- The state that is carried is the image's.
-state-is : (c : tie.After-decode) → listed (c .decode .result) ≡ decode (start-of (fits-of (else2-of (c .before .before .before))) .args .image .now)
+state-is : (c : tie.After-decode) → listed (c .decode .result) ≡ decode (start-of (fits-of (else2-of (c .before .before))) .args .image .now)
 state-is c =
-    let fits = fits-of (else2-of (c .before .before .before)) in
+    let fits = fits-of (else2-of (c .before .before)) in
     listed-is _ (bytes-of fits) (start-of fits .pre .1) (c .decode .ensures)
 
 answered-requires : tie.Need-answered-requires
 answered-requires c κs =
-    let fits = fits-of (else2-of (c .before .before .before)) in
+    let fits = fits-of (else2-of (c .before .before)) in
     (sound-pipeline _ (bytes-of fits) (start-of fits .pre .1) (c .decode .ensures), subst (λ (s : State). Fitting s (start-of fits .args .b)) (sym (state-is c)) (fits-in (c .before)))
 
 returns-6 : tie.Need-returns-6
 returns-6 c =
     let else5 = c .before .before in
-    let else4 = else5 .before .before in
+    let else4 = else5 .before in
     let else2 = else2-of else4 in
     all-yes _ _ (block-passes (else2 .before .before)) (due-in-passes else2) (due-tick-passes (else4 .before)) (ticket-passes else4) (room-passes else5) _ (rw (state-is (c .before)) at (c .answered .ensures))
 
@@ -201,6 +201,7 @@ offer-spec =
     (tie.spec
     u32-at-requires
     u32-at-requires-2
+    shared-slice-read-live
     shared-slice-read-wide32
     wide32-requires
     fits-requires
@@ -215,7 +216,6 @@ offer-spec =
     returns-3
     declined-requires-4
     returns-4
-    shared-slice-read-if5
     declined-requires-5
     returns-5
     decode-requires
