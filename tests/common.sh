@@ -11,6 +11,18 @@ need() {
     command -v "$1" > /dev/null || die "no command '$1' on this machine: $2"
 }
 
+# need_package COMMAND PACKAGE..: where COMMAND is missing, these packages of Debian are installed, if that may be done here.
+need_package() {
+    local command=$1
+    shift
+    command -v "$command" > /dev/null && return
+    { [ "$(id -u)" = 0 ] && command -v apt-get > /dev/null; } || die "no command '$command' on this machine; on Debian: apt-get install $*"
+    echo "apt-get install $*"
+    mkdir -p target
+    { apt-get update && DEBIAN_FRONTEND=noninteractive apt-get install -y --no-install-recommends "$@"; } > "target/apt-$command.log" 2>&1
+    command -v "$command" > /dev/null || { tail -n 5 "target/apt-$command.log"; die "no command '$command' on this machine, and apt-get could not install $*"; }
+}
+
 # The archives that rt writes, and the programs, are for x86-64.
 need_x86_64() {
     [ "$(uname -m)" = x86_64 ] || die "this test runs code of the library, which is for x86-64; this machine is $(uname -m)"
