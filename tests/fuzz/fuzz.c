@@ -39,8 +39,8 @@
  *         bit 4     the order block by its bytes and not by a row
  *         bit 5     the bytes of the reply before the call, as many as it has; otherwise they are a pattern
  *         bit 6     the buffers stand at the start of their rooms and not at the end; a buffer of length 0 is lent by a pointer to nothing and not by NULL
- *         bit 7     a patch comes last. For offer and quote it is one of the order block: 1 byte where, mod its length, and 1 byte exclusive or. For advance and
- *                   open it is one of the image, as above, and is taken back if the call is declined
+ *         bit 7     a patch comes last. For offer and quote it is one of the order block: 1 byte where, mod its length, and 1 byte exclusive or. For advance
+ *                   and open it is one of the image, as above, and is taken back if the call is declined
  *         then for offer and quote the order block: by its bytes, or
  *             1 byte    bits 0 to 1 the row, mod rows; bits 2 to 3 the due-in: 0 by 2 bytes, 1 by 4 bytes, 2 60,000,
  *                       3 by 1 byte, signed, that is added to the smallest which is on time, as the simulator has it
@@ -158,6 +158,29 @@ static unsigned long made, inputs, seen[CALLS][15], offers_at[33], advances_at[3
 static const char *input_name = "the input";
 static unsigned long made_before;
 
+/* What AFL++ is told beside the edges of the library, so that it keeps an input that is the first with it: call, number and N; and the live orders before a
+ * done offer or advance. To AFL++ these are edges like the others: they stand in the same section. */
+#define PAIRS (CALLS * 15 * 10)
+#define MARKS (PAIRS + 2 * 33)
+static uint8_t marked[MARKS], marked_here[MARKS]; /* in any input; in this one, where each counts once */
+static unsigned long marks;
+#ifdef FUZZ
+static uint32_t guards[MARKS] __attribute__((section("__sancov_guards"), used));
+void __sanitizer_cov_trace_pc_guard(uint32_t *guard);
+#endif
+
+static void mark(size_t at)
+{
+    if (marked_here[at])
+        return;
+    marks += !marked[at];
+    marked[at] = 1;
+    marked_here[at] = 1;
+#ifdef FUZZ
+    __sanitizer_cov_trace_pc_guard(&guards[at]);
+#endif
+}
+
 static uint32_t get4(const uint8_t *at)
 {
     return (uint32_t)at[0] | (uint32_t)at[1] << 8 | (uint32_t)at[2] << 16 | (uint32_t)at[3] << 24;
@@ -258,10 +281,15 @@ static uint32_t one_call(void)
         differ("the reply was written", &sides[0], &right, &right);
 
     seen[which][right.number]++;
-    if (which == OFFER && right.number == 0)
+    mark(((size_t)which * 15 + right.number) * 10 + (image[5] < 9 ? image[5] : 9));
+    if (which == OFFER && right.number == 0) {
         offers_at[image[6]]++;
-    if (which == ADVANCE && right.number == 0)
+        mark(PAIRS + image[6]);
+    }
+    if (which == ADVANCE && right.number == 0) {
         count_tick(image, right.image);
+        mark(PAIRS + 33 + image[6]);
+    }
     memcpy(image, right.image, image_length);
     return right.number;
 }
@@ -501,6 +529,7 @@ static void try_input(const uint8_t *bytes, size_t length)
     inputs++;
     made_before = made;
     memset(image, 0, sizeof image);
+    memset(marked_here, 0, sizeof marked_here);
     uint32_t kind = take(1);
     take_rows();
     switch (kind & 3) {
@@ -602,7 +631,7 @@ int main(int argc, char **argv)
                 printf(" %d %lux", k, seen[c][k]);
         printf("\n");
     }
-    printf("%lu starts, %lu orders that go on, %lu orders out\n", starts, moves, outs);
+    printf("%lu starts, %lu orders that go on, %lu orders out; %lu of %d marks\n", starts, moves, outs, marks, MARKS);
     return first == 2 && !complete() ? 1 : 0;
 }
 
