@@ -1,0 +1,107 @@
+"""README.md's blocks of indented lines, each tried: blocks.py README. A block is a list of commands, an input or an output. Commands are run as they stand,
+but for four: `tests/run` is what runs this; the long comparison, the fuzzer and the benchmark are run in a short form. An output has to be what the command
+before it writes. The blocks and their order are those of the list below: a block that it does not have, or one that is gone, is an error."""
+import os
+import re
+import subprocess
+import sys
+
+ROOM = "target/readme"
+
+
+def blocks(page):
+    """The runs of indented lines, without their indent."""
+    found, inside = [], False
+    for line in page.split("\n"):
+        if line.startswith("    "):
+            if not inside:
+                found.append([])
+            found[-1].append(line[4:])
+            inside = True
+        elif line.strip():
+            inside = False
+        else:
+            inside = False
+    return ["\n".join(lines) + "\n" for lines in found]
+
+
+def commands(block):
+    """The commands of a block, without the comments after them."""
+    return [re.sub(r"\s+# .*", "", line) for line in block.splitlines()]
+
+
+def run(command, given="", folder="."):
+    """What a command writes. It ends with status 0 and says nothing on standard error that is not in the log."""
+    print("$", command, flush=True)
+    # Its own standard error, since rt and compilers talk there.
+    with open(f"{ROOM}/stderr", "a") as log:
+        done = subprocess.run(["bash", "-c", command], input=given, stdout=subprocess.PIPE, stderr=log, text=True, cwd=folder)
+    if done.returncode != 0:
+        sys.exit(f"{command}: exit {done.returncode}\n{done.stdout[-2000:]}\nsee {ROOM}/stderr")
+    return done.stdout
+
+
+def same(command, shown, written):
+    if shown != written:
+        sys.exit(f"README.md shows another output than '{command}' has:\n{written}")
+    print(f"{len(written.splitlines())} lines, as README.md has them")
+
+
+def expect(block, *wanted):
+    if commands(block) != list(wanted):
+        sys.exit(f"README.md has the commands {commands(block)} in the place of {list(wanted)}")
+
+
+def main():
+    page = open(sys.argv[1]).read()
+    given = blocks(page)
+    if len(given) != 12:
+        sys.exit(f"README.md has {len(given)} blocks of indented lines, and this test knows 12: it has to know each")
+    two, cabinet, requests, told, plan, table, figures, inspect, said, programs, tried, bench = given
+
+    expect(two, "rt staticlib dispatcher", "tests/run")
+    run("rt staticlib dispatcher")
+    if not os.access("tests/run", os.X_OK):
+        sys.exit("tests/run cannot be run")
+
+    # In a folder of links, since the example leaves files where it is run.
+    for name in ["include", "firmware"]:
+        os.symlink(os.path.abspath(name), f"{ROOM}/{name}")
+    os.makedirs(f"{ROOM}/target/staticlib")
+    os.symlink(os.path.abspath("target/staticlib/libdispatcher.a"), f"{ROOM}/target/staticlib/libdispatcher.a")
+    build, start = commands(cabinet)
+    run(build, folder=ROOM)
+    run(start, "status\n", folder=ROOM)
+    os.remove(f"{ROOM}/cabinet.image")
+    same(start, told, run(start + " --tick 0", requests, folder=ROOM))
+
+    expect(plan, "rt check plan", "target/bin/plan < TABLE")
+    run("rt check plan")
+    open(f"{ROOM}/table", "w").write(table)
+    call = f"target/bin/plan < {ROOM}/table"
+    same(call, figures, run(call))
+    # "With deadline 7 in place of 8 the last line is `2 4 7 late`"
+    shown = re.search(r"With deadline 7 in place of 8 the last\s+line is `([^`]*)`", page).group(1)
+    open(f"{ROOM}/table", "w").write(table.replace("\n8 8 ", "\n8 7 "))
+    if run(call).splitlines()[-1] != shown:
+        sys.exit(f"with deadline 7 plan does not print '{shown}'")
+
+    expect(inspect, "rt check inspect", "target/bin/inspect < IMAGE")
+    run("rt check inspect")
+    call = "target/bin/inspect < crates/inspect/stdin"
+    same(call, said, run(call))
+
+    expect(programs, "rt check cases soak")
+    run("rt check cases soak")
+
+    expect(tried, "tests/compare/run", "tests/fuzz/run")
+    if "status 1" in run("tests/compare/run --calls 20000 --seed 1"):
+        sys.exit("tests/compare/run says that it failed")
+    run("tests/fuzz/run --replay tests/fuzz/seeds/*")
+
+    expect(bench, "bench/run")
+    run("bench/run --compare")
+    print(f"compared: {len(given)} blocks of README.md, commands, inputs and outputs, with runs of the commands")
+
+
+main()
