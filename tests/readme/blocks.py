@@ -18,8 +18,6 @@ def blocks(page):
                 found.append([])
             found[-1].append(line[4:])
             inside = True
-        elif line.strip():
-            inside = False
         else:
             inside = False
     return ["\n".join(lines) + "\n" for lines in found]
