@@ -12,6 +12,6 @@ use Rattle.image.specs.Pipeline.{unused, padded}
 use Rattle.model.specs.declared.Order.{Order}
 use Rattle.model.specs.declared.Service.{Service}
 
-pub parts-padded : (image : List ℕ) (live clock next : ℕ) (services : List Service) (orders : List Order) → live ≡ liveCount image → clock ≡ word image clockAt → next ≡ word image nextAt → services ≡ servicesOf image → orders ≡ ordersOf image live ++ replicate (maxLive - live) unused → record { n = byte image stationCountAt; live = liveCount image; clock = clock; next = next; services = services; orders = orders } ≡ padded (decode image)
+pub parts-padded : (image : List ℕ) (clock next : ℕ) (services : List Service) (orders : List Order) → clock ≡ word image clockAt → next ≡ word image nextAt → services ≡ servicesOf image → orders ≡ ordersOf image (liveCount image) ++ replicate (maxLive - liveCount image) unused → record { n = byte image stationCountAt; live = liveCount image; clock = clock; next = next; services = services; orders = orders } ≡ padded (decode image)
 unfolding padded decode
-parts-padded image live clock next services orders l c n s o = rw (c, n, s, o, l, length-upward 0 (liveCount image) (λ i. orderOf (recordPart image i)))
+parts-padded image clock next services orders c n s o = rw (c, n, s, o, length-upward 0 (liveCount image) (λ i. orderOf (recordPart image i)))

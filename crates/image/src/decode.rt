@@ -6,7 +6,7 @@ ghost use Prim.Native.Nat.{_-_, _<_, _≤_};
 ghost use lib.ListN.{length, replicate};
 ghost use Rattle.model.specs.Limits.{maxStations, maxLive};
 ghost use Rattle.model.specs.Layout.{imageSize, serviceSize, recordSize, servicePart, recordPart};
-ghost use Rattle.model.specs.Image.{serviceOf, orderOf, servicesOf, ordersOf};
+ghost use Rattle.model.specs.Image.{liveCount, serviceOf, orderOf, servicesOf, ordersOf};
 ghost use Rattle.model.specs.Image as says;
 ghost use Rattle.image.specs.Pipeline.{unused, padded, Readable};
 use super::Pipeline;
@@ -113,13 +113,12 @@ pub fn orders_of(image: &[u8], live: usize) -> [Order; 32]
     orders
 }
 
-// What an image says. Neither the bytes of a number in another order nor the clock read for the next ticket meets the promise.
-pub fn decode(image: &[u8]) -> Pipeline
-    requires { ⌜ Readable (now image) ⌝ }
+// What an image says, with its records as `orders_of` reads them.
+pub fn state_with(image: &[u8], orders: [Order; 32]) -> Pipeline
+    requires { ⌜ Readable (now image) × (orders ≡ ordersOf (now image) (liveCount (now image)) ++ replicate (maxLive - liveCount (now image)) unused) ⌝ }
     ensures { λ r. ⌜ r ≡ padded (says.decode (now (image .entry))) ⌝ }
 {
     let services = services_of(image);
-    let orders = orders_of(image, wide(image[LIVE_COUNT_AT]));
     Pipeline {
         n: image[STATION_COUNT_AT],
         live: image[LIVE_COUNT_AT],
@@ -128,4 +127,12 @@ pub fn decode(image: &[u8]) -> Pipeline
         services: services,
         orders: orders,
     }
+}
+
+// What an image says. Neither the bytes of a number in another order nor the clock read for the next ticket meets the promise.
+pub fn decode(image: &[u8]) -> Pipeline
+    requires { ⌜ Readable (now image) ⌝ }
+    ensures { λ r. ⌜ r ≡ padded (says.decode (now (image .entry))) ⌝ }
+{
+    state_with(image, orders_of(image, wide(image[LIVE_COUNT_AT])))
 }
