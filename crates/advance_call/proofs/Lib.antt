@@ -1,2 +1,3 @@
--- Laws of the call.
+-- Laws of the call, and of the image after the tick.
 pub mod AdvanceLaws
+pub mod After

@@ -1,13 +1,47 @@
 // Advance once questions 1 to 4 pass. The C interface joins the two.
+ghost use mathlib.Core.Path.{_≡_};
+ghost use Prim.Native.Nat.{_<_};
+ghost use lib.ListN.{length};
+ghost use Rattle.model.specs.Limits.{lastTick};
+ghost use Rattle.model.specs.Layout.{imageSize};
+ghost use Rattle.model.specs.Image as says;
+ghost use Rattle.model.specs.Tick.{starts, tick, advance};
 ghost use Rattle.model.specs.Calls.{advanceCall};
+ghost use Rattle.image.specs.Pipeline.{listed};
 ghost use Rattle.roundtrip.specs.Usable.{Usable};
+ghost use Rattle.sound_pipeline.specs.SoundPipeline.{SoundPipeline};
 ghost use Rattle.call_results.specs.Gives.{Gives};
 use call_results::put_decline;
 use call_results::put_reply;
-use dispatch::advance;
-use image::decode::decode;
+use dispatch::served;
+use image::Pipeline;
+use image::decode::orders_of;
+use image::decode::state_with;
+use image::layout::CLOCK_AT;
+use image::layout::LIVE_COUNT_AT;
+use image::wide;
+use image::wide32;
+use image_writer::put_header;
+use image_writer::put_services;
+use leaving::leave;
+use little_endian_reader::u32_at;
+use model::Service;
 use model::limits::LAST_TICK;
 use questions::Answer;
+use station_entries::vacate::ticket_out;
+use station_entries::vacate::vacate_all;
+
+// What changes of the image: the records if an order leaves a station, header and station entries. Neither the clock left as it was
+// nor a station entry not written meets the promise.
+fn put_after(image: &mut [u8], p: Pipeline, services: [Service; 8])
+    requires { ⌜ (length (now image) ≡ imageSize) × (now image ≡ says.encode (listed p)) × SoundPipeline p × (p .clock < lastTick) × (services ≡ tick (starts (listed p)) .services) ⌝ }
+    ensures { λ _. ⌜ now (image .exit) ≡ says.encode (advance (listed p)) ⌝ }
+{
+    let orders = p.orders;
+    let kept = leave(image, wide32(p.n), services, orders, wide(p.live));
+    put_header(image, p.n, kept as u8, p.clock + 1, p.next);
+    put_services(image, vacate_all(services));
+}
 
 // Question 13, which is asked of the state, and the course of one tick. Neither a clock that goes past its end nor the clock
 // from before in the reply meets the promise.
@@ -15,12 +49,11 @@ pub fn advanced(image: &mut [u8], reply: &mut [u8]) -> u32
     requires { ⌜ Usable (now image) (now reply) ⌝ }
     ensures { λ r. ⌜ Gives (advanceCall (now (image .entry)) (now (reply .entry))) r (now (image .exit)) (now (reply .exit)) ⌝ }
 {
-    let p = decode(image);
-    if p.clock < LAST_TICK {
-        let done = advance(p);
-        let state = done.state;
-        put_reply(reply, 0, done.out, state.clock, 0);
-        image_writer::encode(image, state);
+    if u32_at(image, CLOCK_AT) < LAST_TICK {
+        let p = state_with(image, orders_of(image, wide(image[LIVE_COUNT_AT])));
+        let services = served(p);
+        put_reply(reply, 0, ticket_out(wide(p.n), services), p.clock + 1, 0);
+        put_after(image, p, services);
         return 0;
     }
     let number = questions::number(Answer::Clock);

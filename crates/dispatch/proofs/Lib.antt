@@ -1,2 +1,2 @@
--- The steps put together.
-pub mod AdvanceLaws
+-- What a sound state gives the starts.
+pub mod ServedLaws

@@ -1,47 +1,22 @@
-// The course of one tick, on a state by value.
+// The course of one tick, on a state by value: the starts, and one tick less to go.
 ghost use mathlib.Core.Path.{_≡_};
-ghost use Prim.Native.Nat.{_<_};
-ghost use Rattle.model.specs.Limits.{lastTick};
+ghost use Rattle.model.specs.Tick.{starts, tick};
 ghost use Rattle.image.specs.Pipeline.{listed};
 ghost use Rattle.sound_pipeline.specs.SoundPipeline.{SoundPipeline};
-ghost use Rattle.dispatch.specs.Advanced.{advanced};
 use image::Pipeline;
 use image::wide;
-use leaving::leave;
+use model::Service;
 use starting::started;
 use station_entries::tick::tick_all;
-use station_entries::vacate::ticket_out;
-use station_entries::vacate::vacate_all;
 
-// The ticket out or 0, and the state after.
-pub struct Advanced {
-    pub out: u32,
-    pub state: Pipeline,
-}
-
-// "Advance does this, in order": the starts, the tick, and who leaves. Neither the clock moved and no order, nor an order kept
-// that is out, meets the promise.
-pub fn advance(p: Pipeline) -> Advanced
-    requires { ⌜ SoundPipeline p × (p .clock < lastTick) ⌝ }
-    ensures { λ r. ⌜ r ≡ advanced (listed p) ⌝ }
+// "Advance does this, in order": the station entries once each idle station has started an order and each order in service has
+// one tick less to go. Those with nothing to go are about to leave. Neither a tick taken off before the starts nor an order that
+// starts and keeps its whole cost meets the promise.
+pub fn served(p: Pipeline) -> [Service; 8]
+    requires { ⌜ SoundPipeline p ⌝ }
+    ensures { λ r. ⌜ r ≡ tick (starts (listed p)) .services ⌝ }
 {
-    let live = wide(p.live);
-    let orders = p.orders;
     let entries = p.services;
-    let services = tick_all(started(entries, orders, live));
-    let rest = leave(p.n as u32, services, orders, live);
-    let records = rest.orders;
-    let vacant = vacate_all(services);
-    let state = Pipeline {
-        n: p.n,
-        live: rest.live,
-        clock: p.clock + 1,
-        next: p.next,
-        services: vacant,
-        orders: records,
-    };
-    Advanced {
-        out: ticket_out(wide(p.n), services),
-        state: state,
-    }
+    let orders = p.orders;
+    tick_all(started(entries, orders, wide(p.live)))
 }

@@ -1,29 +1,33 @@
--- The loop over the live orders: what it has done after i of them, that nothing is to be done where no order leaves a station, and what clearing the rest gives.
+-- The loop over the live orders: what it has done after i of them, that nothing is to be done where no order leaves a station, and the records that are then free.
 use mathlib.Core.Path.{_≡_, refl, sym, ap, _∙_}
 use mathlib.Core.Bool.{Bool, true, false, cond, _&&_}
-use mathlib.Core.List.{List, [], _∷_, _++_, map, map-append, append-nil, append-assoc, List·Memᴰ·head, List·Memᴰ·tail}
-use Prim.Native.Nat.{ℕ, zero, suc, _+_, _-_, _≤_, _<_}
+use mathlib.Core.List.{List, [], _∷_, _++_, map, map-append, append-nil, List·Memᴰ·head, List·Memᴰ·tail}
+use Prim.Native.Nat.{ℕ, zero, suc, _+_, _-_, _*_, _≤_, _<_}
 use native.Mathlib.Numerals.{add-one}
 use native.Mathlib.Omega.{arith}
-use lib.ListN.{length, length-set, length-append, length-replicate, getD, set, take, drop, replicate, replicate-append-replicate, take-append-drop}
-use lib.Seq.{take-suc, take-suc-set, drop-set-lt, drop-drop, drop-cons, getD-drop, set-at, length-take-le}
+use lib.ListN.{length, length-append, length-replicate, getD, take, replicate, replicate-append-replicate}
+use lib.Seq.{take-suc, length-take-le}
 use lib.Dec.{leb, eqb}
 use borrow.Author.Tests.{le-leb, eqb-true, ne-eqb}
 use Rattle.model.specs.declared.Order.{Order}
 use Rattle.model.specs.declared.Service.{Service}
 use Rattle.model.specs.Limits.{maxLive}
-use Rattle.model.specs.Lists.{isZero, any, only}
+use Rattle.model.specs.Lists.{isZero, any, only, concat}
 use Rattle.model.specs.State.{idle}
+use Rattle.model.specs.Layout.{recordsAt, recordSize}
+use Rattle.model.specs.Image.{orderBytes}
 use Rattle.model.specs.Tick.{view, stationAfter, moveTo}
+use Rattle.lists.specs.Stored.{Stored}
+use Rattle.lists.proofs.Stores.{stored-none, stored-then}
 use Rattle.lists.proofs.Tests.{either, both-false}
-use Rattle.lists.proofs.Fills.{past}
+use Rattle.lists.proofs.Fills.{past, concat-append, concat-one}
 use Rattle.schedule.specs.Valid.{_∈_}
 use Rattle.schedule.specs.Pass.{moved}
 use Rattle.image.specs.Pipeline.{unused}
-use Rattle.selection.specs.Candidates.{Placed}
+use Rattle.selection.specs.Candidates.{Placed, Queue}
 use Rattle.selection.proofs.CandidateLaws.{placed-at}
 use Rattle.station_entries.proofs.StationLaws.{at-place}
-use Rattle.leaving.specs.Remaining.{finishes, movedBy, remaining, Held, holding, clearedTo}
+use Rattle.leaving.specs.Remaining.{finishes, movedBy, remaining, rows, Held, Holds, Moved, Left}
 
 -- A record by the entry of its own station.
 moved-by : (services : List Service) (o : Order) → 1 ≤ o .station → movedBy (getD services (o .station - 1) idle) o ≡ moved services o
@@ -77,53 +81,21 @@ module _ (services : List Service) (quiet : any finishes services ≡ false) whe
       let there = each o (List·Memᴰ·head refl) in
       rw (unmoved o (there .0), le-leb (o .station) n (there .1)) (ap (λ t. o ∷ t) (all-stay n orders (λ x m. each x (List·Memᴰ·tail m))))
 
--- After i of the live orders: the first `kept` records of the list are those that remain of them, and from place i on it is as it was.
-pub record Moving (n : ℕ) (services : List Service) (orders : List Order) (live i kept : ℕ) (list : List Order) : Type 0 where
-  pub few : kept ≤ i
-  pub high : i ≤ live
-  pub long : length list ≡ maxLive
-  pub front : take kept list ≡ remaining n services (take i orders)
-  pub rear : drop i list ≡ drop i orders
+module _ {n : ℕ} (services : List Service) {orders : List Order} (long : length orders ≡ maxLive) where
+  -- Nothing yet.
+  pub none-yet : (l : List ℕ) → Moved n services orders 0 l 0 l
+  unfolding remaining only concat
+  none-yet l = record { few = omega arith; count = refl; stored = stored-none l recordsAt; long = refl }
 
-from-rear : (l : List Order) (i : ℕ) → getD l i past ≡ getD (drop i l) 0 past
-from-rear l i =
-    let e : i ≡ i + 0 = omega arith in
-    ap (λ (k : ℕ). getD l k past) e ∙ sym (getD-drop i l 0 past)
-
-module _ {n : ℕ} (services : List Service) {orders : List Order} {live : ℕ} (long : length orders ≡ maxLive) (held : Held n orders live) where
-  begin : (kept : ℕ) → kept ≤ live → take kept orders ≡ remaining n services (take kept orders) → Moving n services orders live kept kept orders
-  begin kept h e = record { few = omega arith; high = h; long = long; front = e; rear = refl }
-
-  none-yet : take 0 orders ≡ remaining n services (take 0 orders)
-  unfolding remaining only
-  none-yet = refl
-
-  pub begins : {kept : ℕ} → kept ≡ cond (any finishes services) 0 live → Moving n services orders live kept kept orders
-  begins {kept} e =
-      either (λ b. any finishes services ≡ b → kept ≡ cond b 0 live → Moving n services orders live kept kept orders) (any finishes services)
-      (λ _ _ z. rw z (begin 0 (omega arith) none-yet))
-      (λ _ quiet z. rw z (begin live (omega arith) (sym (all-stay services quiet n (take live orders) (λ o m. (held .queue .placed o m, held .high o m))))))
-      refl e
-
-  module _ {i kept : ℕ} {list : List Order} (so-far : Moving n services orders live i kept list) (more : i < live) where
-    -- The record at place i is still as it was.
-    read : getD list i past ≡ getD orders i past
-    read = from-rear list i ∙ ap (λ (l : List Order). getD l 0 past) (so-far .rear) ∙ sym (from-rear orders i)
-
-    pub next-placed : Placed (getD list i past)
-    next-placed = rw read (placed-at long (held .queue) i more)
+  module _ {live : ℕ} (queue : Queue orders live) {i kept : ℕ} {l mid : List ℕ} (so-far : Moved n services orders i l kept mid) (more : i < live) where
+    pub next-placed : Placed (getD orders i past)
+    next-placed = placed-at long queue i more
 
     -- One order more: the next record, moved.
-    module _ {m : Order} (is : m ≡ movedBy (getD services (getD list i past .station - 1) idle) (getD list i past)) where
-      m-is : m ≡ moved services (getD orders i past)
-      m-is = is ∙ moved-by services (getD list i past) (next-placed .low) ∙ ap (moved services) read
-
+    module _ {m : Order} (is : m ≡ movedBy (getD services (getD orders i past .station - 1) idle) (getD orders i past)) where
       one-more : map (moved services) (take (i + 1) orders) ≡ map (moved services) (take i orders) ++ (m ∷ [])
       one-more =
-          rw (add-one i, take-suc orders i past (omega (arith, more, held .queue .room, long)), m-is) (map-append (moved services) (take i orders) (getD orders i past ∷ []))
-
-      further : drop (i + 1) list ≡ drop (i + 1) orders
-      further = sym (drop-drop 1 i list) ∙ ap (drop 1) (so-far .rear) ∙ drop-drop 1 i orders
+          rw (add-one i, take-suc orders i past (omega (arith, more, queue .room, long)), is, moved-by services (getD orders i past) (next-placed .low)) (map-append (moved services) (take i orders) (getD orders i past ∷ []))
 
       stays : leb (m .station) n ≡ true → remaining n services (take (i + 1) orders) ≡ remaining n services (take i orders) ++ (m ∷ [])
       unfolding remaining
@@ -133,45 +105,49 @@ module _ {n : ℕ} (services : List Service) {orders : List Order} {live : ℕ} 
       unfolding remaining
       goes e = rw one-more (only-dropped (λ o. leb (o .station) n) (map (moved services) (take i orders)) m e)
 
-      pub one-out : leb (m .station) n ≡ false → Moving n services orders live (i + 1) kept list
-      one-out e = record { few = omega (arith, so-far .few); high = omega (arith, more); long = so-far .long; front = so-far .front ∙ sym (goes e); rear = further }
-
-      pub one-stays : leb (m .station) n ≡ true → Moving n services orders live (i + 1) (kept + 1) (set list kept m)
-      one-stays e =
+      pub one-out : leb (m .station) n ≡ false → Moved n services orders (i + 1) l kept mid
+      one-out e =
           record {
             few = omega (arith, so-far .few);
-            high = omega (arith, more);
-            long = length-set list kept m ∙ so-far .long;
-            front = rw (add-one kept, take-suc-set list kept m (omega (arith, so-far .few, so-far .long, more, held .queue .room)), so-far .front, stays e);
-            rear = drop-set-lt (i + 1) list kept m (omega (arith, so-far .few)) ∙ further;
+            count = rw (goes e) (so-far .count);
+            stored = rw (goes e) (so-far .stored);
+            long = rw (goes e) (so-far .long);
           }
 
-  -- All live orders have moved, and the records that are left over are cleared.
-  pub all-moved : {kept : ℕ} {list rest : List Order} → Moving n services orders live live kept list → rest ≡ clearedTo live list kept → record { orders = rest; live = kept } ≡ holding (remaining n services (take live orders))
-  unfolding clearedTo holding
-  all-moved {kept} {list} m e =
-      let count : length (remaining n services (take live orders)) ≡ kept =
-      ap length (sym (m .front)) ∙ length-take-le kept list (omega (arith, m .few, m .long, held .queue .room)) in
-      let left : live - kept + (maxLive - live) ≡ maxLive - kept = omega (arith, m .few, held .queue .room) in
-      rw (e, m .front, m .rear, held .spare, replicate-append-replicate (live - kept) (maxLive - live) unused, left, count)
+      pub one-stays : leb (m .station) n ≡ true → {t : List ℕ} → Stored mid (recordsAt + recordSize * kept) (orderBytes m) t → length (orderBytes m) ≡ recordSize → Moved n services orders (i + 1) l (kept + 1) t
+      one-stays e w h =
+          let rest = remaining n services (take i orders) in
+          let more-rows : rows (rest ++ (m ∷ [])) ≡ rows rest ++ orderBytes m =
+          rw (map-append orderBytes rest (m ∷ []), concat-append (map orderBytes rest) (orderBytes m ∷ []), concat-one (orderBytes m)) in
+          record {
+            few = omega (arith, so-far .few);
+            count = rw (stays e, length-append rest (m ∷ []), ← so-far .count);
+            stored = rw (stays e, more-rows) (stored-then (so-far .stored) (rw (so-far .long)) w);
+            long = rw (stays e, more-rows, length-append (rows rest) (orderBytes m), so-far .long, h) (omega arith);
+          }
 
--- Clearing the record at place j.
-pub cleared-none : (l : List Order) (kept : ℕ) → l ≡ clearedTo kept l kept
-unfolding clearedTo
-cleared-none l kept = let z : kept - kept ≡ 0 = omega arith in rw (z, take-append-drop kept l)
+-- A record without an order is zeros: one more of them.
+pub unused-more : (kept j : ℕ) {l mid t : List ℕ} {o : Order} → kept ≤ j → Stored l (recordsAt + recordSize * kept) (replicate (recordSize * (j - kept)) 0) mid → o ≡ unused → Stored mid (recordsAt + recordSize * j) (orderBytes o) t → Stored l (recordsAt + recordSize * kept) (replicate (recordSize * (j + 1 - kept)) 0) t
+unfolding orderBytes concat
+unused-more kept j h w e s =
+    let more : recordSize * (j - kept) + recordSize ≡ recordSize * (j + 1 - kept) = omega arith in
+    let zeros : Stored _ _ (replicate recordSize 0) _ = rw e at s in
+    rw (← more, ← replicate-append-replicate {A = ℕ} (recordSize * (j - kept)) recordSize 0)
+    (stored-then w (rw (length-replicate {A = ℕ} (recordSize * (j - kept)) 0) (omega arith)) zeros)
 
-pub cleared-more : (l : List Order) (kept j : ℕ) → kept ≤ j → j < length l → {list : List Order} {o : Order} → list ≡ clearedTo j l kept → o ≡ unused → set list j o ≡ clearedTo (j + 1) l kept
-unfolding clearedTo
-cleared-more l kept j low high e u =
-    let done = take kept l ++ replicate (j - kept) unused in
-    let long : length done ≡ j =
-    length-append (take kept l) (replicate (j - kept) unused) ∙ omega (arith, length-take-le kept l (omega arith), length-replicate (j - kept) unused) in
-    let one : j - kept + 1 ≡ j + 1 - kept = omega arith in
-    rw (e, u)
-    (ap (λ (x : List Order). set x j unused) (sym (append-assoc (take kept l) (replicate (j - kept) unused) (drop j l)) ∙ ap (λ (x : List Order). done ++ x) (drop-cons l j past high))
-    ∙ set-at done (getD l j past) (drop (suc j) l) unused j long
-    ∙ append-assoc (take kept l) (replicate (j - kept) unused) (unused ∷ drop (suc j) l)
-    ∙ ap (λ (x : List Order). take kept l ++ x)
-    (sym (append-assoc (replicate (j - kept) unused) (replicate 1 unused) (drop (suc j) l))
-    ∙ ap (λ (x : List Order). x ++ drop (suc j) l) (replicate-append-replicate (j - kept) 1 unused ∙ ap (λ (k : ℕ). replicate k unused) one)
-    ∙ ap (λ (k : ℕ). replicate (j + 1 - kept) unused ++ drop k l) (sym (add-one j))))
+-- All live orders have moved, and the records that are then free are zero; or no order leaves a station, and the records stay as they are.
+module _ {n : ℕ} {services : List Service} {orders : List Order} {live : ℕ} where
+  pub left : {kept : ℕ} {l mid t : List ℕ} → Moved n services orders live l kept mid → Stored mid (recordsAt + recordSize * kept) (replicate (recordSize * (live - kept)) 0) t → Left n services orders live l kept t
+  left m w = record { few = m .few; count = m .count; stored = stored-then (m .stored) (rw (m .long)) w; long = m .long }
+
+  pub none-leaves : length orders ≡ maxLive → Held n orders live → any finishes services ≡ false → {l : List ℕ} → Holds l (take live orders) → Left n services orders live l live l
+  none-leaves whole held quiet holds =
+      let all-there = all-stay services quiet n (take live orders) (λ o m. (held .queue .placed o m, held .high o m)) in
+      let count : length (take live orders) ≡ live = length-take-le live orders (omega (arith, whole, held .queue .room)) in
+      let none : recordSize * (live - live) ≡ 0 = omega arith in
+      record {
+        few = omega arith;
+        count = rw (all-there, count);
+        stored = rw (all-there, none, append-nil (rows (take live orders))) (holds .there);
+        long = rw all-there (rw count at (holds .long));
+      }

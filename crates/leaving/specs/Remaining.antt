@@ -1,21 +1,21 @@
 -- Document 01: "An order with nothing to go leaves its station, and waits at the next or, after station N, is out." The orders that are not out, and
--- how code carries them.
+-- their records in the image.
 use mathlib.Core.Path.{_≡_}
 use mathlib.Core.Bool.{Bool, not, cond, _&&_}
 use mathlib.Core.List.{List, _++_, map}
-use Prim.Native.Nat.{ℕ, _+_, _-_, _≤_}
-use lib.ListN.{length, take, drop, replicate}
+use Prim.Native.Nat.{ℕ, _+_, _-_, _*_, _≤_}
+use lib.ListN.{length, take, replicate}
 use lib.Dec.{leb, eqb}
 use Rattle.model.specs.declared.Order.{Order}
 use Rattle.model.specs.declared.Service.{Service}
-use Rattle.model.specs.Limits.{maxLive}
-use Rattle.model.specs.Lists.{isZero, only}
+use Rattle.model.specs.Lists.{isZero, only, concat}
+use Rattle.model.specs.Layout.{recordsAt, recordSize}
+use Rattle.model.specs.Image.{orderBytes}
 use Rattle.model.specs.Tick.{moveTo}
+use Rattle.lists.specs.Stored.{Stored}
 use Rattle.schedule.specs.Valid.{_∈_}
 use Rattle.schedule.specs.Pass.{moved}
-use Rattle.image.specs.Pipeline.{unused}
 use Rattle.selection.specs.Candidates.{Queue}
-use Rattle.leaving.specs.declared.Remaining.{Remaining}
 
 -- Whether an order leaves the station of this entry.
 unfoldable pub finishes : Service → Bool
@@ -28,16 +28,30 @@ movedBy e o = moveTo (cond (eqb (e .ticket) (o .ticket) && isZero (e .left)) (o 
 unfoldable pub remaining : ℕ → List Service → List Order → List Order
 remaining n services orders = only (λ o. leb (o .station) n) (map (moved services) orders)
 
--- An array of records as a sound state has it: the first `live` are orders at stations up to n, the rest unused.
+-- An array of records as a sound state has it: the first `live` are orders at stations up to n.
 pub record Held (n : ℕ) (orders : List Order) (live : ℕ) : Type 0 where
   pub queue : Queue orders live
   pub high : (o : Order) → o ∈ take live orders → o .station ≤ n
-  pub spare : drop live orders ≡ replicate (maxLive - live) unused
 
--- Those orders alone are live, the rest unused records up to 32.
-unfoldable pub holding : List Order → Remaining
-holding orders = record { orders = orders ++ replicate (maxLive - length orders) unused; live = length orders }
+-- The bytes of records, one after the other.
+abbrev pub rows : List Order → List ℕ
+rows orders = concat (map orderBytes orders)
 
--- The records from place `kept` to place j are unused.
-unfoldable pub clearedTo : ℕ → List Order → ℕ → List Order
-clearedTo j orders kept = take kept orders ++ (replicate (j - kept) unused ++ drop j orders)
+-- The image has these records, from the first on: to store them there changes nothing.
+pub record Holds (image : List ℕ) (orders : List Order) : Type 0 where
+  pub there : Stored image recordsAt (rows orders) image
+  pub long : length (rows orders) ≡ recordSize * length orders
+
+-- Of the first i orders `kept` remain, and image m is image l with their records from the first on.
+pub record Moved (n : ℕ) (services : List Service) (orders : List Order) (i : ℕ) (l : List ℕ) (kept : ℕ) (m : List ℕ) : Type 0 where
+  pub few : kept ≤ i
+  pub count : kept ≡ length (remaining n services (take i orders))
+  pub stored : Stored l recordsAt (rows (remaining n services (take i orders))) m
+  pub long : length (rows (remaining n services (take i orders))) ≡ recordSize * kept
+
+-- The same of the live orders, and the records that are then free are zero.
+pub record Left (n : ℕ) (services : List Service) (orders : List Order) (live : ℕ) (l : List ℕ) (kept : ℕ) (m : List ℕ) : Type 0 where
+  pub few : kept ≤ live
+  pub count : kept ≡ length (remaining n services (take live orders))
+  pub stored : Stored l recordsAt (rows (remaining n services (take live orders)) ++ replicate (recordSize * (live - kept)) 0) m
+  pub long : length (rows (remaining n services (take live orders))) ≡ recordSize * kept

@@ -1,13 +1,19 @@
 // "An order with nothing to go leaves its station, and waits at the next or, after station N, is out."
 ghost use mathlib.Core.Path.{_≡_};
 ghost use mathlib.Core.Bool.{cond, _&&_};
-ghost use Prim.Native.Nat.{_+_, _≤_};
-ghost use lib.ListN.{take};
+ghost use Prim.Native.Nat.{_+_, _-_, _*_, _≤_};
+ghost use lib.ListN.{length, take, replicate};
 ghost use lib.Dec.{eqb};
 ghost use Rattle.model.specs.Limits.{maxStations, maxLive};
 ghost use Rattle.model.specs.Lists.{isZero, any};
-ghost use Rattle.leaving.specs.Remaining.{finishes, movedBy, remaining, Held, holding, clearedTo};
+ghost use Rattle.model.specs.Layout.{imageSize, recordsAt, recordSize};
+ghost use Rattle.lists.specs.Stored.{Stored};
+ghost use Rattle.selection.specs.Candidates.{Queue};
+ghost use Rattle.leaving.specs.Remaining.{finishes, movedBy, Held, Holds, Moved, Left};
+use image::layout::RECORD_SIZE;
+use image::layout::RECORDS_AT;
 use image::unused_order;
+use image_writer::put_order;
 use model::Order;
 use model::Service;
 
@@ -47,56 +53,50 @@ fn any_leaves(services: [Service; 8]) -> bool
     leaves
 }
 
-// So many of the first records are as they were: all of them in a tick in which no order leaves a station.
-fn settled(services: [Service; 8], live: usize) -> usize
-    ensures { λ r. ⌜ r ≡ cond (any finishes services) 0 live ⌝ }
+// Goes once over the live orders: each moves, and stays a record unless it is past station n. The records of those that stay
+// are written into the image from the first on; how many they are. Neither an order at station n removed nor one that is out
+// kept meets the promise.
+fn put_remaining(image: &mut [u8], n: u32, services: [Service; 8], orders: [Order; 32], live: usize) -> usize
+    requires { ⌜ (length (now image) ≡ imageSize) × Queue orders live ⌝ }
+    ensures { λ r. ⌜ Moved n services orders live (now (image .entry)) r (now (image .exit)) ⌝ }
 {
-    if any_leaves(services) { 0 } else { live }
-}
-
-// The live records from place `kept` on become unused.
-fn cleared(orders: [Order; 32], kept: usize, live: usize) -> [Order; 32]
-    requires { ⌜ (kept ≤ live) × (live ≤ maxLive) ⌝ }
-    ensures { λ r. ⌜ r ≡ clearedTo live orders kept ⌝ }
-{
-    let mut list = orders;
-    let mut j = kept;
-    while j < live {
-        list[j] = unused_order();
-        j += 1;
-    }
-    list
-}
-
-// The records of those that are not out, and how many they are. The array goes first, so that nothing stands beside it that
-// would keep the compiler from having one array for this one and the others.
-pub struct Remaining {
-    pub orders: [Order; 32],
-    pub live: u8,
-}
-
-// Goes once over the live orders: each moves, and stays a record unless it is past station n. Neither an order at station n
-// removed nor one that is out kept meets the promise.
-pub fn leave(n: u32, services: [Service; 8], orders: [Order; 32], live: usize) -> Remaining
-    requires { ⌜ Held n orders live ⌝ }
-    ensures { λ r. ⌜ r ≡ holding (remaining n services (take live orders)) ⌝ }
-{
-    let mut list = orders;
-    let mut kept = settled(services, live);
-    let mut i = kept;
+    let mut kept: usize = 0;
+    let mut i: usize = 0;
     while i < live {
-        let o = list[i];
+        let o = orders[i];
         let k = (o.station - 1) as usize;
         let m = moved(services[k], o);
         if m.station <= n {
-            list[kept] = m;
+            put_order(image, RECORDS_AT + RECORD_SIZE * kept, m);
             kept += 1;
         }
         i += 1;
     }
-    let rest = cleared(list, kept, live);
-    Remaining {
-        orders: rest,
-        live: kept as u8,
+    kept
+}
+
+// The live records from place `kept` on become zero.
+fn put_unused(image: &mut [u8], kept: usize, live: usize)
+    requires { ⌜ (length (now image) ≡ imageSize) × (kept ≤ live) × (live ≤ maxLive) ⌝ }
+    ensures { λ _. ⌜ Stored (now (image .entry)) (recordsAt + recordSize * kept) (replicate (recordSize * (live - kept)) 0) (now (image .exit)) ⌝ }
+{
+    let mut j = kept;
+    while j < live {
+        put_order(image, RECORDS_AT + RECORD_SIZE * j, unused_order());
+        j += 1;
     }
+}
+
+// The records after the tick, in the place of those from before it, and how many they are. In a tick in which no order leaves a
+// station they are as they were, and nothing is written. A record left behind of an order that is out does not meet the promise.
+pub fn leave(image: &mut [u8], n: u32, services: [Service; 8], orders: [Order; 32], live: usize) -> usize
+    requires { ⌜ (length (now image) ≡ imageSize) × Held n orders live × Holds (now image) (take live orders) ⌝ }
+    ensures { λ r. ⌜ Left n services orders live (now (image .entry)) r (now (image .exit)) ⌝ }
+{
+    if any_leaves(services) {
+        let kept = put_remaining(image, n, services, orders, live);
+        put_unused(image, kept, live);
+        return kept;
+    }
+    live
 }

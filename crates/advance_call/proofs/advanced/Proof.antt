@@ -1,48 +1,77 @@
--- The clock of the decoded state decides: the reply and the image are those of the state after the tick, or 13 is given.
-use mathlib.Core.Path.{_≡_}
+-- The clock of the image decides: the reply and the image are those of the state after the tick, or 13 is given.
+use mathlib.Core.Path.{_≡_, sym, ap, _∙_}
 use native.Mathlib.Omega.{arith}
 use borrow.Author.Needs.{needs}
-use Rattle.model.specs.Image.{decode}
-use Rattle.image.specs.Pipeline.{listed}
-use Rattle.roundtrip.specs.Usable.{Usable}
+use Prim.Native.Nat.{_<_}
+use Rattle.model.specs.Limits.{lastTick}
+use Rattle.model.specs.Image.{decode, encode}
+use Rattle.image.specs.Pipeline.{listed, Readable}
+use Rattle.roundtrip.proofs.Sound.{sound-gives, encode-decode}
 use Rattle.sound_pipeline.specs.SoundPipeline.{SoundPipeline}
 use Rattle.sound_pipeline.proofs.Decoded.{readable, listed-is, sound-pipeline}
-use Rattle.advance_call.proofs.AdvanceLaws.{ended, room-left, done}
+use Rattle.advance_call.proofs.AdvanceLaws.{ended, still-early, done}
+use Rattle.advance_call.proofs.After.{stations}
 use Rattle.advance_call.proofs.advanced.Statement.{statement}
 use Rattle.advance_call.proofs.advanced.Tie as tie
 
-decode-requires : tie.Need-decode-requires
-decode-requires c κs =
-    let known = c .before .before in
+u32-at-requires : tie.Need-u32-at-requires
+u32-at-requires c κs = search needs
+
+slice-reshared-read-wide : tie.Need-slice-reshared-read-wide
+slice-reshared-read-wide c = search needs
+
+wide-requires : tie.Need-wide-requires
+wide-requires c κs = search needs
+
+can-be-read : (c : tie.After-wide) → Readable (c .before .before .before .before .before .before .before .args .image .now)
+can-be-read c =
+    let known = c .before .before .before .before .before .before in
     readable _ (λ i. known .slice-known .given i .fits) (known .before .pre .image-sound) (known .before .pre .image-whole)
 
--- The state that is carried is the image's.
-state-is : (c : tie.After-decode) → listed (c .decode .result) ≡ decode (c .before .before .before .before .args .image .now)
+orders-of-requires : tie.Need-orders-of-requires
+orders-of-requires c κs = let r = can-be-read c in (r .whole, rw (c .wide .ensures) (r .room))
+
+state-with-requires : tie.Need-state-with-requires
+state-with-requires c κs = (can-be-read (c .before), rw (c .before .wide .ensures) at (c .orders-of .ensures))
+
+-- The state that is carried is the image's, and its clock is not at its end.
+state-is : (c : tie.After-state-with) → listed (c .state-with .result) ≡ decode (c .before .before .before .before .before .before .before .before .before .args .image .now)
 state-is c =
-    let known = c .before .before .before in
-    listed-is _ (λ i. known .slice-known .given i .fits) (known .before .pre .image-sound) (c .decode .ensures)
+    let known = c .before .before .before .before .before .before .before .before in
+    listed-is _ (λ i. known .slice-known .given i .fits) (known .before .pre .image-sound) (c .state-with .ensures)
 
-lent : (c : tie.After-decode) → let top = c .before .before .before .before in Usable (top .args .image .now) (top .args .reply .now)
-lent c = c .before .before .before .before .pre
-
-carried : (c : tie.After-decode) → SoundPipeline (c .decode .result)
+carried : (c : tie.After-state-with) → SoundPipeline (c .state-with .result)
 carried c =
-    let known = c .before .before .before in
-    sound-pipeline _ (λ i. known .slice-known .given i .fits) (known .before .pre .image-sound) (c .decode .ensures)
+    let known = c .before .before .before .before .before .before .before .before in
+    sound-pipeline _ (λ i. known .slice-known .given i .fits) (known .before .pre .image-sound) (c .state-with .ensures)
 
-advance-requires : tie.Need-advance-requires
-advance-requires c κs = (carried (c .before .before), omega (arith, c .if1 .taken))
+early : (c : tie.After-state-with) → c .state-with .result .clock < lastTick
+early c =
+    let clock = c .before .before .before .before .before in
+    still-early _ _ (c .before .before .before .before .before .before .before .before .before .pre) (clock .u32-at .result) (clock .u32-at .ensures) (omega (arith, c .before .before .before .before .if1 .taken)) (c .state-with .result) (state-is c)
+
+served-requires : tie.Need-served-requires
+served-requires c κs = carried c
+
+wide-requires-2 : tie.Need-wide-requires-2
+wide-requires-2 c κs = search needs
+
+ticket-out-requires : tie.Need-ticket-out-requires
+ticket-out-requires c κs = stations (carried (c .before .before .before)) (c .wide2 .ensures)
+
+add-put-reply : tie.Need-add-put-reply
+add-put-reply c = omega (arith, early (c .before .before .before .before .before))
 
 put-reply-requires : tie.Need-put-reply-requires
 put-reply-requires c κs = search needs
 
-encode-requires : tie.Need-encode-requires
-encode-requires c κs =
-    let advance = c .before .before .before .before .before .before in
-    let decode = advance .before .before .before in (
-      lent decode .image-whole,
-      room-left _ _ (lent decode) (decode .decode .result) (state-is decode) (omega (arith, advance .before .if1 .taken)) (advance .advance .result) (advance .advance .ensures) (carried decode .sound),
-    )
+put-after-requires : tie.Need-put-after-requires
+put-after-requires c κs =
+    let state = c .before .before .before .before .before .before .before .before .before in
+    let known = state .before .before .before .before .before .before .before .before in
+    let lent = known .before .pre in
+    let same = encode-decode _ (lent .image-whole) (λ i. known .slice-known .given i .fits) (lent .image-marked) (lent .image-sound) in
+    (lent .image-whole, sym same ∙ ap encode (sym (state-is state)), carried state, early state, c .before .before .before .before .before .before .before .before .served .ensures)
 
 same-length : tie.Need-same-length
 same-length c = search needs
@@ -52,12 +81,11 @@ same-length-2 c = search needs
 
 returns : tie.Need-returns
 returns c =
-    let encode = c .before .before in
-    let put = encode .before .before .before .before in
-    let advance = put .before .before .before in
-    let decode = advance .before .before .before in
-    rw (encode .encode .ensures, put .put-reply .ensures)
-    (done _ _ (lent decode) (decode .decode .result) (state-is decode) (omega (arith, advance .before .if1 .taken)) (advance .advance .result) (advance .advance .ensures))
+    let state = c .before .before .before .before .before .before .before .before .before .before .before .before in
+    let clock = state .before .before .before .before .before in
+    rw (c .before .before .before .before .before .before .put-reply .ensures)
+    (done _ _ (state .before .before .before .before .before .before .before .before .before .pre) (clock .u32-at .result) (clock .u32-at .ensures) (omega (arith, state .before .before .before .before .if1 .taken)) (state .state-with .result) (state-is state)
+    (c .before .before .before .before .before .before .before .before .before .before .before .served .ensures) (c .before .before .before .before .before .before .before .before .before .wide2 .ensures) (c .before .before .before .before .before .before .before .before .ticket-out .ensures) (c .before .before .put-after .ensures))
 
 number-requires : tie.Need-number-requires
 number-requires c κs = search needs
@@ -75,18 +103,26 @@ returns-2 : tie.Need-returns-2
 returns-2 c =
     let put = c .before .before in
     let number = put .before .before in
-    let decode = number .before .before .before in
+    let clock = number .before .before in
+    let known = clock .before .before .before in
     rw (put .put-decline .ensures)
-    (ended _ _ (lent decode) (decode .decode .result) (state-is decode) (carried decode .sound) (number .before .if1 .left) (number .number .result) (number .number .ensures))
+    (ended _ _ (known .before .pre) (clock .u32-at .result) (clock .u32-at .ensures) (sound-gives _ (λ i. known .slice-known .given i .fits) (known .before .pre .image-sound)) (number .before .if1 .left) (number .number .result) (number .number .ensures))
 
 pub advanced-spec : {M : Type 1} → statement M
 advanced-spec =
     tie.close
     (tie.spec
-    decode-requires
-    advance-requires
+    u32-at-requires
+    slice-reshared-read-wide
+    wide-requires
+    orders-of-requires
+    state-with-requires
+    served-requires
+    wide-requires-2
+    ticket-out-requires
+    add-put-reply
     put-reply-requires
-    encode-requires
+    put-after-requires
     same-length
     same-length-2
     returns

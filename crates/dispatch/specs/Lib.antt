@@ -1,2 +1,0 @@
--- What advance makes of a state.
-pub mod Advanced
