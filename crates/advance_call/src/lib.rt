@@ -38,9 +38,10 @@ fn put_after(image: &mut [u8], p: Pipeline, services: [Service; 8])
     ensures { λ _. ⌜ now (image .exit) ≡ says.encode (advance (listed p)) ⌝ }
 {
     let orders = p.orders;
+    let vacant = vacate_all(services);
     let kept = leave(image, wide32(p.n), services, orders, wide(p.live));
     put_header(image, p.n, kept as u8, p.clock + 1, p.next);
-    put_services(image, vacate_all(services));
+    put_services(image, vacant);
 }
 
 // Question 13, which is asked of the state, and the course of one tick. Neither a clock that goes past its end nor the clock

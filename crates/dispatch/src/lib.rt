@@ -18,5 +18,6 @@ pub fn served(p: Pipeline) -> [Service; 8]
 {
     let entries = p.services;
     let orders = p.orders;
-    tick_all(started(entries, orders, wide(p.live)))
+    let begun = started(entries, orders, wide(p.live));
+    tick_all(begun)
 }

@@ -56,7 +56,13 @@ fn any_leaves(services: [Service; 8]) -> bool
 // Goes once over the live orders: each moves, and stays a record unless it is past station n. The records of those that stay
 // are written into the image from the first on; how many they are. Neither an order at station n removed nor one that is out
 // kept meets the promise.
-fn put_remaining(image: &mut [u8], n: u32, services: [Service; 8], orders: [Order; 32], live: usize) -> usize
+fn put_remaining(
+    image: &mut [u8],
+    n: u32,
+    services: [Service; 8],
+    orders: [Order; 32],
+    live: usize,
+) -> usize
     requires { ⌜ (length (now image) ≡ imageSize) × Queue orders live ⌝ }
     ensures { λ r. ⌜ Moved n services orders live (now (image .entry)) r (now (image .exit)) ⌝ }
 {
@@ -89,7 +95,13 @@ fn put_unused(image: &mut [u8], kept: usize, live: usize)
 
 // The records after the tick, in the place of those from before it, and how many they are. In a tick in which no order leaves a
 // station they are as they were, and nothing is written. A record left behind of an order that is out does not meet the promise.
-pub fn leave(image: &mut [u8], n: u32, services: [Service; 8], orders: [Order; 32], live: usize) -> usize
+pub fn leave(
+    image: &mut [u8],
+    n: u32,
+    services: [Service; 8],
+    orders: [Order; 32],
+    live: usize,
+) -> usize
     requires { ⌜ (length (now image) ≡ imageSize) × Held n orders live × Holds (now image) (take live orders) ⌝ }
     ensures { λ r. ⌜ Left n services orders live (now (image .entry)) r (now (image .exit)) ⌝ }
 {

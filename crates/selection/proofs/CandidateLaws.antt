@@ -1,14 +1,14 @@
 -- The candidates with one order more in front: at its own station, if that is idle, the one of the two that goes first, at the others as before. By the
 -- clauses of `first`.
 use mathlib.Core.Path.{_≡_, refl, sym, ap, _∙_}
-use mathlib.Core.Bool.{false, cond}
+use mathlib.Core.Bool.{Bool, true, false, cond, _||_}
 use mathlib.Core.List.{List, [], _∷_, map, Memᴰ·of-map, Memᴰ·append-right}
 use mathlib.Core.Logic.{inl, inr}
 use mathlib.Core.Option.{Option, none, some}
 use Prim.Native.Nat.{ℕ, suc, _-_, _≤_, _<_}
 use native.Mathlib.Omega.{arith}
 use lib.ListN.{length, length-set, length-replicate, getD, getD-replicate, set, take, drop, replicate, take-append-drop, drop-of-length-le}
-use lib.Seq.{getD-set-same, getD-set-other, getD-take, drop-cons, length-take-le, ext-getD}
+use lib.Seq.{set-getD, getD-set-same, getD-set-other, getD-take, drop-cons, length-take-le, ext-getD}
 use lib.Dec.{eqb}
 use borrow.Author.Tests.{eq-eqb, ne-eqb}
 use Rattle.model.specs.declared.Order.{Order}
@@ -143,12 +143,31 @@ module _ (services : List Service) (services-long : length services ≡ maxStati
         ∙ ap (λ (x : Order). x ∷ drop (suc (i - 1)) (take live orders)) (getD-take live orders (i - 1) past (omega arith))
         ∙ ap (λ (j : ℕ). getD orders (i - 1) past ∷ drop j (take live orders)) n
 
-    pub one-tried : (found : List Candidate) (r : Candidate) → getD services (getD orders (i - 1) past .station - 1) idle .ticket ≡ 0 → found ≡ candidates (map view (drop i (take live orders))) services → r ≡ preferred (candidateOf (suc (getD orders (i - 1) past .station - 1)) (some (view (getD orders (i - 1) past)))) (getD found (getD orders (i - 1) past .station - 1) nobody) → set found (getD orders (i - 1) past .station - 1) r ≡ candidates (map view (drop (i - 1) (take live orders))) services
+    one-tried : (found : List Candidate) (r : Candidate) → getD services (getD orders (i - 1) past .station - 1) idle .ticket ≡ 0 → found ≡ candidates (map view (drop i (take live orders))) services → r ≡ preferred (candidateOf (suc (getD orders (i - 1) past .station - 1)) (some (view (getD orders (i - 1) past)))) (getD found (getD orders (i - 1) past .station - 1) nobody) → set found (getD orders (i - 1) past .station - 1) r ≡ candidates (map view (drop (i - 1) (take live orders))) services
     unfolding view
     one-tried found r idles e q =
         let o = getD orders (i - 1) past in
         let there : Placed o = placed-at orders-long ready (i - 1) (omega arith) in
         rw front (one-more services services-long (view o) (map view (drop i (take live orders))) (o .station - 1) (omega (arith, there .low, there .high)) (omega (arith, there .low)) (later-named i) idles found r e q)
+
+    -- It is found, or what was found stays.
+    module _ (found : List Candidate) (c : Candidate) (idles : getD services (getD orders (i - 1) past .station - 1) idle .ticket ≡ 0) (e : found ≡ candidates (map view (drop i (take live orders))) services) (is : c ≡ candidateOf (suc (getD orders (i - 1) past .station - 1)) (some (view (getD orders (i - 1) past)))) where
+      abbrev place : ℕ
+      place = getD orders (i - 1) past .station - 1
+
+      abbrev held : Candidate
+      held = getD found place nobody
+
+      abbrev goes : Bool
+      goes = isZero (held .ticket) || before (c .rank) (c .ticket) (held .rank) (held .ticket)
+
+      pub one-found : {b : Bool} → b ≡ goes → b ≡ true → set found place c ≡ candidates (map view (drop (i - 1) (take live orders))) services
+      unfolding preferred
+      one-found g t = one-tried found c idles e (rw (← is, ← g, t))
+
+      pub one-stays : {b : Bool} → b ≡ goes → b ≡ false → found ≡ candidates (map view (drop (i - 1) (take live orders))) services
+      unfolding preferred
+      one-stays g t = sym (set-getD found place nobody) ∙ one-tried found held idles e (rw (← is, ← g, t))
 
     pub one-passed : (found : List Candidate) → (getD services (getD orders (i - 1) past .station - 1) idle .ticket ≡ 0 → ⊥) → found ≡ candidates (map view (drop i (take live orders))) services → found ≡ candidates (map view (drop (i - 1) (take live orders))) services
     unfolding view

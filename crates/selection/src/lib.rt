@@ -1,10 +1,12 @@
 // Who starts: for each idle station the order that goes first there.
 ghost use mathlib.Core.Path.{_≡_};
+ghost use mathlib.Core.Bool.{_||_};
 ghost use mathlib.Core.List.{map};
 ghost use mathlib.Core.Option.{some};
 ghost use Prim.Native.Nat.{suc, _<_};
 ghost use lib.ListN.{take};
 ghost use Rattle.model.specs.Limits.{maxStations};
+ghost use Rattle.model.specs.Lists.{isZero};
 ghost use Rattle.model.specs.Tick as tick;
 ghost use Rattle.selection.specs.Candidates.{Queue, candidateOf};
 ghost use Rattle.selection.specs.Candidates as defined;
@@ -30,15 +32,11 @@ fn precedes(rank: u8, ticket: u32, other_rank: u8, other_ticket: u32) -> bool
     }
 }
 
-fn preferred(one: Candidate, other: Candidate) -> Candidate
-    ensures { λ r. ⌜ r ≡ defined.preferred one other ⌝ }
+// Whether an order goes before the one found so far, which may be nobody.
+fn goes_first(rank: u8, ticket: u32, other_rank: u8, other_ticket: u32) -> bool
+    ensures { λ r. ⌜ r ≡ (isZero «other_ticket» || defined.before rank ticket «other_rank» «other_ticket») ⌝ }
 {
-    let goes = precedes(one.rank, one.ticket, other.rank, other.ticket);
-    if (other.ticket == 0) | goes {
-        one
-    } else {
-        other
-    }
+    (other_ticket == 0) | precedes(rank, ticket, other_rank, other_ticket)
 }
 
 // An order as a candidate at the station of place i, counted from 0.
@@ -71,7 +69,11 @@ pub fn candidates(services: [Service; 8], orders: [Order; 32], live: usize) -> [
         let k = (o.station - 1) as usize;
         let here = services[k];
         if here.ticket == 0 {
-            found[k] = preferred(candidate_at(o, k), found[k]);
+            let c = candidate_at(o, k);
+            let f = found[k];
+            if goes_first(c.rank, c.ticket, f.rank, f.ticket) {
+                found[k] = c;
+            }
         }
     }
     found

@@ -4,6 +4,9 @@ use Rattle.advance_call.proofs.After.{held, holds, written}
 use Rattle.advance_call.proofs.put_after.Statement.{statement}
 use Rattle.advance_call.proofs.put_after.Tie as tie
 
+vacate-all-requires : tie.Need-vacate-all-requires
+vacate-all-requires c κs = search needs
+
 wide32-requires : tie.Need-wide32-requires
 wide32-requires c κs = search needs
 
@@ -12,7 +15,7 @@ wide-requires c κs = search needs
 
 leave-requires : tie.Need-leave-requires
 leave-requires c κs =
-    let pre = c .before .before .before .before .before .pre in
+    let pre = c .before .before .before .before .before .before .pre in
     rw (c .before .wide32 .ensures, c .wide .ensures) (pre .0, held (pre .2), rw (pre .1) (holds (pre .2)))
 
 cast-put-header : tie.Need-cast-put-header
@@ -24,9 +27,6 @@ add-put-header c = search needs
 put-header-requires : tie.Need-put-header-requires
 put-header-requires c κs = search needs
 
-vacate-all-requires : tie.Need-vacate-all-requires
-vacate-all-requires c κs = search needs
-
 put-services-requires : tie.Need-put-services-requires
 put-services-requires c κs = search needs
 
@@ -36,24 +36,25 @@ same-length c = search needs
 returns : tie.Need-returns
 returns c =
     let services = c .before .before in
-    let header = services .before .before .before .before .before in
+    let header = services .before .before .before .before in
     let leave = header .before .before .before .before .before in
-    let pre = c .before .before .before .before .before .before .before .before .before .before .before .before .before .before .before .before .before .before .pre in
+    let vacate = leave .before .before .before .before in
+    let pre = vacate .before .before .before .pre in
     let left = rw (leave .before .before .wide32 .ensures, leave .before .wide .ensures, pre .1) at (leave .leave .ensures) in
-    let entries = rw (services .before .vacate-all .ensures) at (services .put-services .ensures) in
+    let entries = rw (vacate .vacate-all .ensures) at (services .put-services .ensures) in
     written (pre .2) left (pre .4) (header .put-header .ensures) (entries .0) (entries .1)
 
 pub put-after-spec : {M : Type 1} → statement M
 put-after-spec =
     tie.close
     (tie.spec
+    vacate-all-requires
     wide32-requires
     wide-requires
     leave-requires
     cast-put-header
     add-put-header
     put-header-requires
-    vacate-all-requires
     put-services-requires
     same-length
     returns)

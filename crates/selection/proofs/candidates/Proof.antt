@@ -10,7 +10,7 @@ use Rattle.model.specs.Tick.{view}
 use Rattle.lists.proofs.Fills.{past}
 use Rattle.selection.specs.Candidates as defined
 use Rattle.selection.specs.Candidates.{Placed}
-use Rattle.selection.proofs.CandidateLaws.{placed-at, none-left, one-tried, one-passed}
+use Rattle.selection.proofs.CandidateLaws.{placed-at, none-left, one-found, one-stays, one-passed}
 use Rattle.selection.proofs.candidates.Statement.{statement}
 use Rattle.selection.proofs.candidates.Tie as tie
 
@@ -60,34 +60,35 @@ array-copy-out-here c = omega (arith, here (c .before .before) .high, here (c .b
 candidate-at-requires : tie.Need-candidate-at-requires Inv-loop μ-loop
 candidate-at-requires c κs = omega (arith, here (c .before .before .before .before .before) .high, here (c .before .before .before .before .before) .low)
 
-mul-preferred : tie.Need-mul-preferred Inv-loop μ-loop
-mul-preferred c = omega (arith, here (c .before .before .before .before .before .before) .high)
+mul-f : tie.Need-mul-f Inv-loop μ-loop
+mul-f c = omega (arith, here (c .before .before .before .before .before .before) .high)
 
-array-copy-out-preferred : tie.Need-array-copy-out-preferred Inv-loop μ-loop
-array-copy-out-preferred c = omega (arith, here (c .before .before .before .before .before .before) .high, here (c .before .before .before .before .before .before) .low)
+array-copy-out-f : tie.Need-array-copy-out-f Inv-loop μ-loop
+array-copy-out-f c = omega (arith, here (c .before .before .before .before .before .before) .high, here (c .before .before .before .before .before .before) .low)
 
-preferred-requires : tie.Need-preferred-requires Inv-loop μ-loop
-preferred-requires c κs = search needs
+goes-first-requires : tie.Need-goes-first-requires Inv-loop μ-loop
+goes-first-requires c κs = search needs
 
 mul-found : tie.Need-mul-found Inv-loop μ-loop
-mul-found c = omega (arith, here (c .before .before .before .before .before .before .before .before) .high)
+mul-found c = omega (arith, here (c .before .before .before .before .before .before .before .before .before) .high)
 
 array-set-from-found : tie.Need-array-set-from-found Inv-loop μ-loop
-array-set-from-found c = omega (arith, here (c .before .before .before .before .before .before .before .before) .high, here (c .before .before .before .before .before .before .before .before) .low)
+array-set-from-found c = omega (arith, here (c .before .before .before .before .before .before .before .before .before) .high, here (c .before .before .before .before .before .before .before .before .before) .low)
 
 loop-less : tie.Need-loop-less Inv-loop μ-loop
 loop-less c = omega arith
 
 loop-again : tie.Need-loop-again Inv-loop μ-loop
 loop-again c =
-    let chosen = c .before .before in
-    let k = c .before .before .before .before .before .before .before .before in
+    let goes = c .before in
+    let chosen = goes .before .before in
+    let k = chosen .before .before .before .before .before .before in
     let inv = k .before .loop .inv in
     let top = start-of k in (
       omega arith,
       simp length-set (inv .1),
-      one-tried (top .args .t1) (services-long top) (orders-long top) (top .pre) (k .before .loop .i) (omega arith) (inv .0) _ _ (chosen .before .if1 .taken) (inv .2)
-          (rw (chosen .candidate-at .ensures) at (c .preferred .ensures)),
+      one-found (top .args .t1) (services-long top) (orders-long top) (top .pre) (k .before .loop .i) (omega arith) (inv .0) _ _ (chosen .before .if1 .taken) (inv .2) (chosen .candidate-at .ensures)
+          (goes .goes-first .ensures) (c .if2 .taken),
     )
 
 loop-less-2 : tie.Need-loop-less-2 Inv-loop μ-loop
@@ -95,6 +96,22 @@ loop-less-2 c = omega arith
 
 loop-again-2 : tie.Need-loop-again-2 Inv-loop μ-loop
 loop-again-2 c =
+    let goes = c .before in
+    let chosen = goes .before .before in
+    let k = chosen .before .before .before .before .before .before in
+    let inv = k .before .loop .inv in
+    let top = start-of k in (
+      omega arith,
+      inv .1,
+      one-stays (top .args .t1) (services-long top) (orders-long top) (top .pre) (k .before .loop .i) (omega arith) (inv .0) _ _ (chosen .before .if1 .taken) (inv .2) (chosen .candidate-at .ensures)
+          (goes .goes-first .ensures) (c .if2 .left),
+    )
+
+loop-less-3 : tie.Need-loop-less-3 Inv-loop μ-loop
+loop-less-3 c = omega arith
+
+loop-again-3 : tie.Need-loop-again-3 Inv-loop μ-loop
+loop-again-3 c =
     let k = c .before .before .before .before .before in
     let inv = k .before .loop .inv in
     let top = start-of k in
@@ -120,13 +137,15 @@ candidates-spec =
     mul-here
     array-copy-out-here
     candidate-at-requires
-    mul-preferred
-    array-copy-out-preferred
-    preferred-requires
+    mul-f
+    array-copy-out-f
+    goes-first-requires
     mul-found
     array-set-from-found
     loop-less
     loop-again
     loop-less-2
     loop-again-2
+    loop-less-3
+    loop-again-3
     returns)
