@@ -9,7 +9,7 @@ use Rattle.model.specs.declared.Order.{Order}
 use Rattle.model.specs.Limits.{maxStations, maxLive}
 use Rattle.model.specs.Lists.{concat}
 use Rattle.model.specs.Bytes.{twoBytes, fourBytes}
-use Rattle.model.specs.Layout.{imageSize, mark, version, recordsAt, recordSize}
+use Rattle.model.specs.Layout.{mark, version, recordsAt, recordSize}
 use Rattle.model.specs.State.{State}
 use Rattle.model.specs.Tick.{vacate, starts, tick, leave, advance}
 use Rattle.model.specs.Image.{serviceBytes, encode}
