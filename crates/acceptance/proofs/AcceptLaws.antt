@@ -7,27 +7,28 @@ use lib.ListN.{length, getD, take, drop, replicate, length-append, length-replic
 use Rattle.model.specs.declared.Block.{Block}
 use Rattle.model.specs.declared.Order.{Order}
 use Rattle.model.specs.Limits.{maxLive}
-use Rattle.model.specs.Lists.{concat, upward, part, largest}
+use Rattle.model.specs.Lists.{concat, upward, largest}
 use Rattle.model.specs.Bytes.{twoBytes, fourBytes}
 use Rattle.model.specs.State.{State}
-use Rattle.model.specs.Layout.{mark, version, imageSize, servicePart, recordPart}
-use Rattle.model.specs.Image.{liveCount, serviceOf, orderOf, orderBytes, ordersOf, decode, encode}
+use Rattle.model.specs.Layout.{mark, version, recordPart}
+use Rattle.model.specs.Image.{liveCount, orderOf, orderBytes, ordersOf, decode, encode}
 use Rattle.model.specs.Admission.{arrival, joinedBy, joinedLive, accept}
 use Rattle.lists.specs.Stored.{Stored}
 use Rattle.lists.proofs.Stores.{stored-then, stored-past}
 use Rattle.lists.proofs.Fills.{Rows, concat-append, concat-one, length-upward, getD-upward, past}
 use Rattle.lists.proofs.Tests.{upward-map}
 use Rattle.schedule.specs.Valid.{_∈_}
-use Rattle.roundtrip.specs.InRange.{byteLimit, Below}
+use Rattle.roundtrip.specs.InRange.{byteLimit, Below, InRange}
 use Rattle.roundtrip.proofs.Rows.{getD-in}
-use Rattle.roundtrip.proofs.Sound.{encode-decode}
+use Rattle.roundtrip.proofs.Written.{header, entries, after-header}
+use Rattle.roundtrip.proofs.Overwritten.{rear, rear-length, header-over, records-over}
+use Rattle.roundtrip.proofs.Sound.{encode-decode, sound-gives}
 use Rattle.image.specs.Pipeline.{listed, padded}
 use Rattle.image.proofs.TwoForms.{listed-padded}
 use Rattle.offers.specs.Considered.{Fitting}
 use Rattle.offers.proofs.Accept.{accept-length}
 use Rattle.sound_pipeline.proofs.Decoded.{sound-pipeline}
 use Rattle.admission.proofs.PipelineLaws.{sums-fit}
-use Rattle.image_writer.proofs.Rewritten.{parts, header, entries, records, header-over, records-over, records-long}
 use Rattle.acceptance.specs.Acceptable.{Acceptable}
 
 -- A map over records that are read in turn.
@@ -46,9 +47,8 @@ module _ {image : List ℕ} {b : Block} {a : Order} (ok : Acceptable image b a) 
   unfolding decode
   live = length-upward 0 (liveCount image) (λ i. orderOf (recordPart image i))
 
-  eight : length (decode image .services) ≡ 8
-  unfolding decode
-  eight = length-upward 0 8 (λ i. serviceOf (servicePart image i))
+  figures : InRange (decode image)
+  figures = sound-gives image bytes (ok .is-sound) .in-range
 
   same : encode (decode image) ≡ image
   same = encode-decode image (ok .whole) bytes (ok .is-marked) (ok .is-sound)
@@ -74,7 +74,7 @@ module _ {image : List ℕ} {b : Block} {a : Order} (ok : Acceptable image b a) 
   orders = concat (map orderBytes (decode image .orders))
 
   -- The records: those of the live orders, the first unused one, and the others.
-  divided : records (decode image) ≡ (orders ++ replicate 64 0) ++ spare
+  divided : rear (decode image) ≡ (orders ++ replicate 64 0) ++ spare
   unfolding orders spare
   divided =
       let e : 64 * (32 - length (decode image .orders)) ≡ 64 + 64 * (32 - (liveCount image + 1)) = omega (arith, live, room) in
@@ -83,7 +83,7 @@ module _ {image : List ℕ} {b : Block} {a : Order} (ok : Acceptable image b a) 
   written-long : length (orders ++ replicate 64 0) ≡ 64 * liveCount image + 64
   unfolding spare
   written-long =
-      let whole : length (records (decode image)) ≡ 2048 = records-long (decode image) eight (ap length same ∙ ok .whole) in
+      let whole : length (rear (decode image)) ≡ 2048 = rear-length (decode image) figures in
       omega (arith, ap length divided, length-append (orders ++ replicate 64 0) spare, length-replicate {A = ℕ} (64 * (32 - (liveCount image + 1))) 0, whole, room)
 
   accepted-live : length (accept (decode image) b .orders) ≡ liveCount image + 1
@@ -95,7 +95,7 @@ module _ {image : List ℕ} {b : Block} {a : Order} (ok : Acceptable image b a) 
 
   module _ {v : List ℕ} (is : v ≡ concat (map orderBytes (map (joinedBy b) (ordersOf image (liveCount image))))) where
     -- The accepted state's records.
-    accepted-records : v ++ orderBytes a ++ spare ≡ records (accept (decode image) b)
+    accepted-records : v ++ orderBytes a ++ spare ≡ rear (accept (decode image) b)
     unfolding spare accept joinedLive decode
     accepted-records =
         let joined = map (joinedBy b) (decode image .orders) in
@@ -111,8 +111,8 @@ module _ {image : List ℕ} {b : Block} {a : Order} (ok : Acceptable image b a) 
     accepted {m1} {m2} {m3} {n} {next} s1 n1 s2 n2 s3 n-is next-is =
         let both : Stored (encode (decode image)) 80 (v ++ orderBytes a) m2 = rw (sym same) at (stored-then s1 (ap (λ (k : ℕ). 80 + k) (sym n1)) s2) in
         let long : length (orders ++ replicate 64 0) ≡ length (v ++ orderBytes a) = written-long ∙ sym (length-append v (orderBytes a) ∙ omega (arith, n1, n2)) in
-        let over : m2 ≡ header (decode image) ++ (entries (decode image) ++ (v ++ orderBytes a ++ spare)) = records-over (decode image) eight (orders ++ replicate 64 0) spare divided long both in
-        let head = header-over (decode image) eight (v ++ orderBytes a ++ spare) (rw over at s3) refl in
+        let over : m2 ≡ header (decode image) ++ (entries (decode image) ++ (v ++ orderBytes a ++ spare)) = records-over (decode image) figures (orders ++ replicate 64 0) spare divided long both in
+        let head = header-over (decode image) (v ++ orderBytes a ++ spare) (rw over at s3) refl in
         head
         ∙ ap (λ (r : List ℕ). mark ++ twoBytes version ++ (n ∷ (liveCount image + 1) ∷ 0 ∷ []) ++ fourBytes (a .accepted) ++ fourBytes next ++ (entries (decode image) ++ r)) accepted-records
-        ∙ rw (n-is, next-is, ← accepted-live, accepted-at) (sym (parts (accept (decode image) b)))
+        ∙ rw (n-is, next-is, ← accepted-live, accepted-at) (sym (after-header (accept (decode image) b)))

@@ -17,8 +17,8 @@ use Rattle.lists.specs.Stored.{Stored}
 use Rattle.lists.proofs.Stores.{stored-over}
 use Rattle.image.specs.declared.Pipeline.{Pipeline}
 use Rattle.image.specs.Pipeline.{listed}
-use Rattle.image_writer.proofs.Rewritten.{header, entries, records, parts, header-over, entries-long, records-over, records-long}
-use Rattle.roundtrip.proofs.Written.{encode-length}
+use Rattle.roundtrip.proofs.Written.{header, entries, after-header, entries-length}
+use Rattle.roundtrip.proofs.Overwritten.{rear, rear-length, header-over, records-over}
 use Rattle.sound_pipeline.specs.SoundPipeline.{SoundPipeline}
 use Rattle.sound_pipeline.proofs.Carried.{live-is, few}
 use Rattle.leaving.specs.Remaining.{remaining, rows, Held, Holds, Left}
@@ -42,29 +42,26 @@ module _ {p : Pipeline} (ok : SoundPipeline p) where
   abbrev zeros : List ℕ
   zeros = replicate (recordSize * (maxLive - length live)) 0
 
-  eight : length (listed p .services) ≡ maxStations
-  eight = ok .sound .in-range .eight
-
   count : length live ≡ p .live
   unfolding listed
   count = sym (live-is ok)
 
-  parted : records (listed p) ≡ rows live ++ zeros
+  parted : rear (listed p) ≡ rows live ++ zeros
   unfolding listed
   parted = refl
 
   rows-long : length (rows live) ≡ recordSize * p .live
   rows-long =
-      let whole : length (rows live ++ zeros) ≡ 2048 = ap length (sym parted) ∙ records-long (listed p) eight (encode-length (listed p) (ok .sound .in-range)) in
+      let whole : length (rows live ++ zeros) ≡ 2048 = ap length (sym parted) ∙ rear-length (listed p) (ok .sound .in-range) in
       omega (arith, whole, length-append (rows live) zeros, length-replicate {A = ℕ} (recordSize * (maxLive - length live)) 0, count, few ok)
 
   over : {v m : List ℕ} → length (rows live) ≡ length v → Stored (encode (listed p)) recordsAt v m → m ≡ header (listed p) ++ (entries (listed p) ++ (v ++ zeros))
-  over h w = records-over (listed p) eight (rows live) zeros parted h w
+  over h w = records-over (listed p) (ok .sound .in-range) (rows live) zeros parted h w
 
   pub holds : Holds (encode (listed p)) live
   holds =
       record {
-        there = record { is = parts (listed p) ∙ ap (λ (r : List ℕ). header (listed p) ++ (entries (listed p) ++ r)) parted ∙ sym (over {v = rows live} refl (record { is = refl })) };
+        there = record { is = after-header (listed p) ∙ ap (λ (r : List ℕ). header (listed p) ++ (entries (listed p) ++ r)) parted ∙ sym (over {v = rows live} refl (record { is = refl })) };
         long = rows-long ∙ ap (λ (k : ℕ). recordSize * k) (sym count);
       }
 
@@ -83,7 +80,7 @@ module _ {p : Pipeline} (ok : SoundPipeline p) where
     unfolding advance leave tick starts listed remaining
     after-is e = rw e
 
-    records-after : rows rest ++ freed ++ zeros ≡ records after
+    records-after : rows rest ++ freed ++ zeros ≡ rear after
     records-after =
         let sum : recordSize * (p .live - kept) + recordSize * (maxLive - length live) ≡ recordSize * (maxLive - length rest) =
         omega (arith, left .few, left .count, count, few ok) in
@@ -97,12 +94,12 @@ module _ {p : Pipeline} (ok : SoundPipeline p) where
 
     pub written : {b c : List ℕ} → services ≡ tick (starts (listed p)) .services → Stored a 0 (mark ++ twoBytes version ++ (p .n ∷ kept ∷ 0 ∷ []) ++ fourBytes (p .clock + 1) ++ fourBytes (p .next)) b → Stored b 16 (concat (map serviceBytes (map vacate services))) c → length (concat (map serviceBytes (map vacate services))) ≡ 64 → c ≡ encode (advance (listed p))
     written {b} {c} s h e sixty-four =
-        let rear = rows rest ++ freed ++ zeros in
-        let a-is : a ≡ header (listed p) ++ (entries (listed p) ++ rear) = over as-long (left .stored) in
-        let h-on : Stored (header (listed p) ++ (entries (listed p) ++ rear)) 0 (header after) b = rw (left .count, a-is) at h in
-        let b-is : b ≡ header after ++ (entries (listed p) ++ rear) = header-over (listed p) eight rear h-on refl in
-        let e-on : Stored (header after ++ (entries (listed p) ++ rear)) 16 (entries after) c = rw b-is at e in
-        stored-over (header after) (entries (listed p)) rear e-on refl (entries-long (listed p) eight ∙ sym sixty-four)
+        let back = rows rest ++ freed ++ zeros in
+        let a-is : a ≡ header (listed p) ++ (entries (listed p) ++ back) = over as-long (left .stored) in
+        let h-on : Stored (header (listed p) ++ (entries (listed p) ++ back)) 0 (header after) b = rw (left .count, a-is) at h in
+        let b-is : b ≡ header after ++ (entries (listed p) ++ back) = header-over (listed p) back h-on refl in
+        let e-on : Stored (header after ++ (entries (listed p) ++ back)) 16 (entries after) c = rw b-is at e in
+        stored-over (header after) (entries (listed p)) back e-on refl (entries-length (listed p) (ok .sound .in-range) ∙ sym sixty-four)
         ∙ ap (λ (r : List ℕ). header after ++ (entries after ++ r)) records-after
-        ∙ sym (parts after)
+        ∙ sym (after-header after)
         ∙ ap encode (after-is s)

@@ -3,6 +3,7 @@ pub mod Numbers
 pub mod Rows
 pub mod Parts
 pub mod Written
+pub mod Overwritten
 pub mod Read
 pub mod Tests
 pub mod Zeros

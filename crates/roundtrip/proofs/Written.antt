@@ -46,20 +46,20 @@ module _ (s : State) where
   unfolding encode
   parts = refl
 
-  after-header : encode s ≡ header s ++ (entries s ++ (records s ++ spare s))
+  pub after-header : encode s ≡ header s ++ (entries s ++ (records s ++ spare s))
   after-header = parts ∙ simp append-assoc
 
-  after-entries : encode s ≡ (header s ++ entries s) ++ (records s ++ spare s)
+  pub after-entries : encode s ≡ (header s ++ entries s) ++ (records s ++ spare s)
   after-entries = parts ∙ append-assoc (header s ++ entries s) (records s) (spare s)
 
 module _ (s : State) (f : InRange s) where
-  entries-length : length (entries s) ≡ serviceSize * maxStations
+  pub entries-length : length (entries s) ≡ serviceSize * maxStations
   entries-length = rows-length serviceBytes serviceSize (s .services) (λ e m. service-length e) ∙ rw (f .eight)
 
   records-sized : (o : Order) → o ∈ s .orders → length (orderBytes o) ≡ recordSize
   records-sized o m = order-length o (f .orders o m)
 
-  front-length : length (header s ++ entries s) ≡ recordsAt
+  pub front-length : length (header s ++ entries s) ≡ recordsAt
   front-length = omega (arith, length-append (header s) (entries s), entries-length)
 
   records-length : length (header s ++ entries s ++ records s) ≡ recordsAt + recordSize * length (s .orders)
