@@ -1,0 +1,2 @@
+-- What is drawn, case by case.
+pub mod Draws

@@ -1,0 +1,3 @@
+-- Order blocks, and those that a long run draws.
+pub mod Block
+pub mod Draw
