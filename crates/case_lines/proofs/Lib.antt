@@ -1,0 +1,2 @@
+-- How long a line is.
+pub mod Room

@@ -1,0 +1,2 @@
+-- What a program prints of a call.
+pub mod ReplyLine
