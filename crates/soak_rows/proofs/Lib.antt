@@ -1,0 +1,3 @@
+-- What the loops keep.
+pub mod Digests
+pub mod Values
