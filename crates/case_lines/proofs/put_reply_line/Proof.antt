@@ -65,9 +65,10 @@ returns c =
     let w3 = w4 .before .before in
     let w2 = w3 .before .before in
     let w1 = w2 .before .before in
-    let p = put-then (put-then (put-then (k1 .put-bytes .ensures) (k2 .put-figures .ensures)) (k3 .put-margin .ensures)) (c .put-byte .ensures) in
-    (rw (w1 .u32-at .ensures, w2 .u32-at2 .ensures, w3 .u32-at3 .ensures, w4 .u32-at4 .ensures) at p,
-    omega (arith, k1 .put-bytes .ensures .place, k2 .put-figures .ensures .place, k3 .put-margin .ensures .place, c .put-byte .ensures .place, figures-room (w1 .u32-at .result) (w2 .u32-at2 .result) (w3 .u32-at3 .result) (omega arith) (omega arith) (omega arith), margin-room (w4 .u32-at4 .result) (omega arith)))
+    let p = put-then (put-then (put-then (k1 .put-bytes .ensures) (k2 .put-figures .ensures)) (k3 .put-margin .ensures)) (c .put-byte .ensures) in (
+      rw (w1 .u32-at .ensures, w2 .u32-at2 .ensures, w3 .u32-at3 .ensures, w4 .u32-at4 .ensures) at p,
+      omega (arith, k1 .put-bytes .ensures .place, k2 .put-figures .ensures .place, k3 .put-margin .ensures .place, c .put-byte .ensures .place, figures-room (w1 .u32-at .result) (w2 .u32-at2 .result) (w3 .u32-at3 .result) (omega arith) (omega arith) (omega arith), margin-room (w4 .u32-at4 .result) (omega arith)),
+    )
 
 pub put-reply-line-spec : {M : Type 1} → statement M
 put-reply-line-spec =

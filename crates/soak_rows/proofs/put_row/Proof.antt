@@ -26,9 +26,10 @@ returns : tie.Need-returns
 unfolding row
 returns c =
     let k2 = c .before .before in
-    let k1 = k2 .before .before in
-    (put-then (put-then (k1 .put-bytes .ensures) (k2 .put-values .ensures .0)) (c .put-byte .ensures),
-    omega (arith, k1 .put-bytes .ensures .place, k2 .put-values .ensures .1, c .put-byte .ensures .place))
+    let k1 = k2 .before .before in (
+      put-then (put-then (k1 .put-bytes .ensures) (k2 .put-values .ensures .0)) (c .put-byte .ensures),
+      omega (arith, k1 .put-bytes .ensures .place, k2 .put-values .ensures .1, c .put-byte .ensures .place),
+    )
 
 pub put-row-spec : {M : Type 1} → statement M
 put-row-spec =

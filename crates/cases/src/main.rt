@@ -1,0 +1,185 @@
+// Document 01's worked cases, made by the calls themselves, a line for each call. The stored output is written by hand from
+// document 01's figures, and no program made it. This one only makes the calls and writes: what it prints of a reply is
+// `replyLine` of the crate `case_lines`, of an image `explained` of the crate `inspection`, and of a table `planOutput` of the
+// crate `planning`.
+ghost use Prim.Native.Nat.{_≤_};
+ghost use lib.ListN.{length};
+use case_lines::put_reply_line;
+use dispatcher::advance::dispatcher_advance;
+use dispatcher::offer::dispatcher_offer;
+use dispatcher::offer::dispatcher_quote;
+use dispatcher::open::dispatcher_open;
+use inspection::explain;
+use plan_text::print_plan;
+use trial_orders::block::order_block;
+
+// The line of a call.
+fn say(call: &[u8], reply: &[u8; 16])
+    requires { ⌜ length (now call) ≤ 8 ⌝ }
+{
+    let mut out = [0u8; 128];
+    let end = put_reply_line(&mut out, call, reply);
+    io::write_all(1, &out[..end]);
+}
+
+fn open(image: &mut [u8; 2128], stations: u32) {
+    let mut reply = [0u8; 16];
+    dispatcher_open(image, stations, &mut reply);
+    say(b"open", &reply);
+}
+
+fn quote(image: &[u8; 2128], order: &[u8; 28]) {
+    let mut reply = [0u8; 16];
+    dispatcher_quote(image, order, &mut reply);
+    say(b"quote", &reply);
+}
+
+fn offer(image: &mut [u8; 2128], order: &[u8; 28]) {
+    let mut reply = [0u8; 16];
+    dispatcher_offer(image, order, &mut reply);
+    say(b"offer", &reply);
+}
+
+fn advance(image: &mut [u8; 2128], ticks: u32) {
+    let mut i = 0;
+    while i < ticks {
+        let mut reply = [0u8; 16];
+        dispatcher_advance(image, &mut reply);
+        say(b"advance", &reply);
+        i += 1;
+    }
+}
+
+// What the image says.
+fn show(image: &[u8; 2128]) {
+    let mut out = [0u8; 8192];
+    let end = explain(image, &mut out);
+    io::write_all(1, &out[..end]);
+}
+
+// "X costs 2, 3 with rank 0; Y costs 1, 2 with rank 5."
+fn x(due_in: u32, rank: u8) -> [u8; 28] {
+    order_block(
+        due_in,
+        [rank, rank, 0, 0, 0, 0, 0, 0],
+        [2, 3, 0, 0, 0, 0, 0, 0],
+    )
+}
+
+fn y(due_in: u32, rank: u8) -> [u8; 28] {
+    order_block(
+        due_in,
+        [rank, rank, 0, 0, 0, 0, 0, 0],
+        [1, 2, 0, 0, 0, 0, 0, 0],
+    )
+}
+
+// An order for one station.
+fn single(due_in: u32, cost: u16) -> [u8; 28] {
+    order_block(due_in, [0; 8], [cost, 0, 0, 0, 0, 0, 0, 0])
+}
+
+// Two orders at 0, and so many ticks.
+fn two_orders(first: &[u8; 28], second: &[u8; 28], ticks: u32) {
+    let mut image = [0u8; 2128];
+    open(&mut image, 2);
+    offer(&mut image, first);
+    offer(&mut image, second);
+    advance(&mut image, ticks);
+}
+
+// "X at 0 with due-in 20, one advance, then Y with rank 0 and due-in 7: Y starts at 2, not 1."
+fn not_stopped() {
+    let mut image = [0u8; 2128];
+    open(&mut image, 2);
+    offer(&mut image, &x(20, 0));
+    advance(&mut image, 1);
+    offer(&mut image, &y(7, 0));
+    advance(&mut image, 1);
+    show(&image);
+    advance(&mut image, 1);
+    show(&image);
+    advance(&mut image, 4);
+}
+
+// "N = 1, cost 4: due-in 4 accepted, 3 gets 11." The decline comes first, and leaves the image alone.
+fn one_station() {
+    let mut image = [0u8; 2128];
+    open(&mut image, 1);
+    offer(&mut image, &single(3, 4));
+    offer(&mut image, &single(4, 4));
+    advance(&mut image, 4);
+}
+
+// "N = 8, all costs 6,000: delay sum 48,000; due-in 0 gets 11."
+fn largest_costs() {
+    let mut image = [0u8; 2128];
+    open(&mut image, 8);
+    offer(&mut image, &order_block(0, [0; 8], [6000; 8]));
+    quote(&image, &order_block(47999, [0; 8], [6000; 8]));
+    quote(&image, &order_block(48000, [0; 8], [6000; 8]));
+    offer(&mut image, &order_block(48000, [0; 8], [6000; 8]));
+}
+
+fn offers(image: &mut [u8; 2128], order: &[u8; 28], times: u32) {
+    let mut i = 0;
+    while i < times {
+        offer(image, order);
+        i += 1;
+    }
+}
+
+// "N = 1, 32 orders of cost 1, due-in 60,000; the next gets 10; after one advance it is accepted."
+fn thirty_two() {
+    let mut image = [0u8; 2128];
+    let order = single(60000, 1);
+    open(&mut image, 1);
+    offers(&mut image, &order, 33);
+    advance(&mut image, 1);
+    offer(&mut image, &order);
+}
+
+fn table(input: &[u8]) {
+    let mut out = [0u8; 1024];
+    let end = print_plan(input, &mut out);
+    io::write_all(1, &out[..end]);
+}
+
+fn counter_cases() {
+    io::write_all(1, b"X due in 20, then Y due in 7\n");
+    two_orders(&x(20, 0), &y(7, 5), 7);
+    io::write_all(1, b"X due in 20, then Y due in 6\n");
+    two_orders(&x(20, 0), &y(6, 5), 0);
+    io::write_all(1, b"X due in 6, then Y due in 100\n");
+    two_orders(&x(6, 0), &y(100, 5), 0);
+    io::write_all(1, b"X due in 20 with rank 5, then Y due in 7 with rank 0\n");
+    two_orders(&x(20, 5), &y(7, 0), 6);
+}
+
+fn other_cases() {
+    io::write_all(1, b"X due in 20, an advance, then Y due in 7 with rank 0\n");
+    not_stopped();
+    io::write_all(1, b"one station, cost 4, due in 3 and in 4\n");
+    one_station();
+    io::write_all(
+        1,
+        b"eight stations, costs 6000, due in 18000 and in 48000\n",
+    );
+    largest_costs();
+    io::write_all(
+        1,
+        b"one station, 33 orders of cost 1 due in 60000, an advance, one more\n",
+    );
+    thirty_two();
+}
+
+fn main() {
+    counter_cases();
+    other_cases();
+    io::write_all(
+        1,
+        b"the standing table, with deadline 8 and with deadline 7\n",
+    );
+    table(b"2\n10 10 2 3\n8 8 1 2\n");
+    table(b"2\n10 10 2 3\n8 7 1 2\n");
+}
