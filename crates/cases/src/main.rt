@@ -28,15 +28,15 @@ fn open(image: &mut [u8; 2128], stations: u32) {
     say(b"open", &reply);
 }
 
-fn quote(image: &[u8; 2128], order: &[u8; 28]) {
+fn quote(image: &[u8; 2128], order: [u8; 28]) {
     let mut reply = [0u8; 16];
-    dispatcher_quote(image, order, &mut reply);
+    dispatcher_quote(image, &order, &mut reply);
     say(b"quote", &reply);
 }
 
-fn offer(image: &mut [u8; 2128], order: &[u8; 28]) {
+fn offer(image: &mut [u8; 2128], order: [u8; 28]) {
     let mut reply = [0u8; 16];
-    dispatcher_offer(image, order, &mut reply);
+    dispatcher_offer(image, &order, &mut reply);
     say(b"offer", &reply);
 }
 
@@ -80,7 +80,7 @@ fn single(due_in: u32, cost: u16) -> [u8; 28] {
 }
 
 // Two orders at 0, and so many ticks.
-fn two_orders(first: &[u8; 28], second: &[u8; 28], ticks: u32) {
+fn two_orders(first: [u8; 28], second: [u8; 28], ticks: u32) {
     let mut image = [0u8; 2128];
     open(&mut image, 2);
     offer(&mut image, first);
@@ -92,9 +92,9 @@ fn two_orders(first: &[u8; 28], second: &[u8; 28], ticks: u32) {
 fn not_stopped() {
     let mut image = [0u8; 2128];
     open(&mut image, 2);
-    offer(&mut image, &x(20, 0));
+    offer(&mut image, x(20, 0));
     advance(&mut image, 1);
-    offer(&mut image, &y(7, 0));
+    offer(&mut image, y(7, 0));
     advance(&mut image, 1);
     show(&image);
     advance(&mut image, 1);
@@ -106,22 +106,27 @@ fn not_stopped() {
 fn one_station() {
     let mut image = [0u8; 2128];
     open(&mut image, 1);
-    offer(&mut image, &single(3, 4));
-    offer(&mut image, &single(4, 4));
+    offer(&mut image, single(3, 4));
+    offer(&mut image, single(4, 4));
     advance(&mut image, 4);
+}
+
+// An order for eight stations.
+fn largest(due_in: u32) -> [u8; 28] {
+    order_block(due_in, [0; 8], [6000; 8])
 }
 
 // "N = 8, all costs 6,000: delay sum 48,000; due-in 0 gets 11."
 fn largest_costs() {
     let mut image = [0u8; 2128];
     open(&mut image, 8);
-    offer(&mut image, &order_block(0, [0; 8], [6000; 8]));
-    quote(&image, &order_block(47999, [0; 8], [6000; 8]));
-    quote(&image, &order_block(48000, [0; 8], [6000; 8]));
-    offer(&mut image, &order_block(48000, [0; 8], [6000; 8]));
+    offer(&mut image, largest(0));
+    quote(&image, largest(47999));
+    quote(&image, largest(48000));
+    offer(&mut image, largest(48000));
 }
 
-fn offers(image: &mut [u8; 2128], order: &[u8; 28], times: u32) {
+fn offers(image: &mut [u8; 2128], order: [u8; 28], times: u32) {
     let mut i = 0;
     while i < times {
         offer(image, order);
@@ -134,9 +139,9 @@ fn thirty_two() {
     let mut image = [0u8; 2128];
     let order = single(60000, 1);
     open(&mut image, 1);
-    offers(&mut image, &order, 33);
+    offers(&mut image, order, 33);
     advance(&mut image, 1);
-    offer(&mut image, &order);
+    offer(&mut image, order);
 }
 
 fn table(input: &[u8]) {
@@ -147,13 +152,13 @@ fn table(input: &[u8]) {
 
 fn counter_cases() {
     io::write_all(1, b"X due in 20, then Y due in 7\n");
-    two_orders(&x(20, 0), &y(7, 5), 7);
+    two_orders(x(20, 0), y(7, 5), 7);
     io::write_all(1, b"X due in 20, then Y due in 6\n");
-    two_orders(&x(20, 0), &y(6, 5), 0);
+    two_orders(x(20, 0), y(6, 5), 0);
     io::write_all(1, b"X due in 6, then Y due in 100\n");
-    two_orders(&x(6, 0), &y(100, 5), 0);
+    two_orders(x(6, 0), y(100, 5), 0);
     io::write_all(1, b"X due in 20 with rank 5, then Y due in 7 with rank 0\n");
-    two_orders(&x(20, 5), &y(7, 0), 6);
+    two_orders(x(20, 5), y(7, 0), 6);
 }
 
 fn other_cases() {
