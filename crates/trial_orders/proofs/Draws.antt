@@ -1,12 +1,11 @@
 -- What is drawn, case by case, and the costs as an array that is filled from the front.
-use mathlib.Core.Path.{_≡_, refl, sym, ap, _∙_}
+use mathlib.Core.Path.{_≡_, refl, ap, _∙_}
 use mathlib.Core.List.{List}
 use Prim.Native.Nat.{ℕ, _+_, _-_, _/_, _%_, _≤_, _<_}
 use native.Mathlib.Numerals.{add-one}
 use native.Mathlib.Omega.{arith}
 use lib.ListN.{length, take, set, length-set}
 use borrow.Author.Tests.{lt-ltb, le-ltb}
-use Rattle.model.specs.Limits.{maxStations}
 use Rattle.model.specs.Lists.{upward}
 use Rattle.lists.proofs.Fills.{fill-start, fill-next, fill-end}
 use Rattle.trial_orders.specs.Draw.{stepped, after, picked, cost, costs, rank, mostCost, dueIn, drawnFor}

@@ -4,13 +4,12 @@ use Prim.Native.Nat.{_≤_}
 use native.Mathlib.Omega.{arith}
 use lib.ListN.{length}
 use lib.Seq.{length-take-le}
-use borrow.Author.Needs.{needs}
 use Rattle.lists.proofs.Stores.{put-length}
 use Rattle.cases.proofs.table.Statement.{statement}
 use Rattle.cases.proofs.table.Tie as tie
 
 print-plan-requires : tie.Need-print-plan-requires
-print-plan-requires c κs = search needs
+print-plan-requires c κs = tt
 
 array-share-prefix-out : tie.Need-array-share-prefix-out
 array-share-prefix-out c = omega (arith, put-length (c .print-plan .ensures .0), c .print-plan .ensures .1)
@@ -22,10 +21,10 @@ slice-aggregate-write-all c =
     sym (length-take-le (p .result) (p .last .1 .0) within)
 
 write-all-requires : tie.Need-write-all-requires
-write-all-requires c κs = search needs
+write-all-requires c κs = tt
 
 returns : tie.Need-returns
-returns c = search needs
+returns c = tt
 
 pub table-spec : {M : Type 1} → statement M
 table-spec =

@@ -21,22 +21,22 @@ slice-aggregate-dispatcher-open-2 : tie.Need-slice-aggregate-dispatcher-open-2 I
 slice-aggregate-dispatcher-open-2 c = search needs
 
 dispatcher-open-requires : tie.Need-dispatcher-open-requires Inv-loop μ-loop
-dispatcher-open-requires c κs = search needs
+dispatcher-open-requires c κs = tt
 
 cast-start : tie.Need-cast-start Inv-loop μ-loop
 cast-start c = omega arith
 
 start-requires : tie.Need-start-requires Inv-loop μ-loop
-start-requires c κs = search needs
+start-requires c κs = tt
 
 loop-holds : tie.Need-loop-holds Inv-loop μ-loop
 loop-holds c = omega arith
 
 stretch-requires : tie.Need-stretch-requires Inv-loop μ-loop
-stretch-requires c κs = search needs
+stretch-requires c κs = (omega arith, omega arith)
 
 print-requires : tie.Need-print-requires Inv-loop μ-loop
-print-requires c κs = search needs
+print-requires c κs = omega arith
 
 add-row : tie.Need-add-row Inv-loop μ-loop
 add-row c = omega arith
@@ -48,7 +48,7 @@ loop-again : tie.Need-loop-again Inv-loop μ-loop
 loop-again c = omega arith
 
 returns : tie.Need-returns Inv-loop μ-loop
-returns c = search needs
+returns c = tt
 
 pub cabinet-spec : {M : Type 1} → statement M
 cabinet-spec =

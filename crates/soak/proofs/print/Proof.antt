@@ -16,16 +16,16 @@ element-copy-out-wide : tie.Need-element-copy-out-wide
 element-copy-out-wide c = search needs
 
 wide-requires : tie.Need-wide-requires
-wide-requires c κs = search needs
+wide-requires c κs = tt
 
 cast-values-of : tie.Need-cast-values-of
 cast-values-of c = omega arith
 
 values-of-requires : tie.Need-values-of-requires
-values-of-requires c κs = search needs
+values-of-requires c κs = tt
 
 put-row-requires : tie.Need-put-row-requires
-put-row-requires c κs = search needs
+put-row-requires c κs = tt
 
 array-share-prefix-out : tie.Need-array-share-prefix-out
 array-share-prefix-out c = omega (arith, put-length (c .put-row .ensures .0), c .put-row .ensures .1)
@@ -37,10 +37,10 @@ slice-aggregate-write-all c =
     sym (length-take-le (p .result) (p .last .0) within)
 
 write-all-requires : tie.Need-write-all-requires
-write-all-requires c κs = search needs
+write-all-requires c κs = tt
 
 returns : tie.Need-returns
-returns c = search needs
+returns c = tt
 
 pub print-spec : {M : Type 1} → statement M
 print-spec =

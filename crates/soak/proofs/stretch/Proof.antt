@@ -1,7 +1,6 @@
 -- A call a turn. The loop keeps nothing but its count.
 use Prim.Native.Nat.{_-_, _≤_}
 use native.Mathlib.Omega.{arith}
-use borrow.Author.Needs.{needs}
 use Rattle.soak.proofs.stretch.Statement.{statement}
 use Rattle.soak.proofs.stretch.Tie as tie
 
@@ -15,7 +14,7 @@ loop-holds : tie.Need-loop-holds Inv-loop μ-loop
 loop-holds c = omega arith
 
 call-requires : tie.Need-call-requires Inv-loop μ-loop
-call-requires c κs = search needs
+call-requires c κs = (omega arith, omega arith)
 
 add-i : tie.Need-add-i Inv-loop μ-loop
 add-i c = omega arith
@@ -27,7 +26,7 @@ loop-again : tie.Need-loop-again Inv-loop μ-loop
 loop-again c = omega arith
 
 returns : tie.Need-returns Inv-loop μ-loop
-returns c = search needs
+returns c = tt
 
 pub stretch-spec : {M : Type 1} → statement M
 stretch-spec =

@@ -1,5 +1,4 @@
 -- By the test.
-use native.Mathlib.Omega.{arith}
 use borrow.Author.Needs.{needs}
 use Rattle.soak_rows.specs.Run.{more}
 use Rattle.soak_rows.proofs.plus.Statement.{statement}

@@ -2,7 +2,6 @@
 use mathlib.Core.Path.{refl}
 use native.Mathlib.Nat.{mod-lt}
 use native.Mathlib.Omega.{arith}
-use borrow.Author.Needs.{needs}
 use Rattle.trial_orders.specs.Draw.{picked}
 use Rattle.trial_orders.proofs.draw.pick.Statement.{statement}
 use Rattle.trial_orders.proofs.draw.pick.Tie as tie
