@@ -1,5 +1,5 @@
 #!/usr/bin/env python3
-"""layers.py [ROOT]: writes docs/layers.svg, the picture of the layers, to standard output.
+"""layers.py [ROOT]: writes docs/layers.svg, the picture of the layers, to standard output. layers.py ROOT list: writes crates/README.md, their list.
 
 The layers are the rows of README.md's table "Layers", and what they use is taken from crates.txt. Before anything is drawn it is checked that
 
@@ -42,7 +42,8 @@ LAYERS = {
     "report": ("An image explained", "code", 5, 5, 7, 3),
     "task_rows": ("Plan in code", "code", 0, 0, 3, 1),
     "plan_words": ("Plan's text", "code", 0, 0, 5, 1),
-    "probe": ("For tests and the benchmark; not part of the product", "test", 0, 5, 8, 2),
+    "trial_orders": ("The calls tried, against stored output", "test", 0, 5, 8, 5),
+    "probe": ("For tests and the benchmark; not part of the product", "test", 0, 5, 9, 2),
 }
 ROWS = {"task_rows": 4, "plan_words": 7}  # layers that reach down to a later row
 OPEN = ("dispatcher", "planner", "plan", "inspect")  # what is handed out: the C library, plan over a lent list, the programs
@@ -75,6 +76,9 @@ ROUTES = {
     ("claims", "offers"): ("up", 0.5),
     ("report", "questions"): ("up", 0.5),
     ("report", "text"): ("note",),
+    ("trial_orders", "plan_words"): ("up", 0.5),
+    ("trial_orders", "dispatcher"): ("up", 0.5),
+    ("trial_orders", "report"): ("up", 0.5),
     ("probe", "questions"): ("note",),
     ("probe", "plan_words"): ("note",),
 }
@@ -152,6 +156,25 @@ def reduced(rows, used):
     return {(a, b) for a in direct for b in direct[a] if not any(b in below[c] for c in direct[a])}
 
 
+LIST_HEAD = """# The layers, in the order of reasoning
+
+Each layer uses only layers above it, and in a layer a crate uses only crates before it. [README.md](../README.md#layers)
+says what each crate is for, and [docs/layers.svg](../docs/layers.svg) shows what uses what. `D` stands for definitions,
+`T` for theorems and laws, `C` for code with its contracts.
+
+| | layer | crates |
+|---|---|---|"""
+
+
+def layer_list(rows):
+    """The layers as a table, for the folder crates/."""
+    letter = {"definition": "D", "theorem": "T", "code": "C", "test": "C"}
+    print(LIST_HEAD)
+    for row in rows:
+        title, kind = LAYERS[row[0]][:2]
+        print(f"| {letter[kind]} | {title} | {', '.join(f'[{c}]({c})' for c in row)} |")
+
+
 def width_of(text, size):
     return sum(0.3 if ch in "iljt'., " else 0.85 if ch in "mw" else 0.66 if ch.isupper() else 0.56 for ch in text) * size
 
@@ -171,6 +194,9 @@ def main():
         fail(f"the layer of {a} uses that of {b}, and the picture does not show it")
     for a, b in sorted(set(ROUTES) - wanted):
         fail(f"the picture shows that the layer of {a} uses that of {b}, which it does not or which follows from others")
+    if sys.argv[2:] == ["list"]:
+        layer_list(rows)
+        return
     members = {row[0]: row for row in rows}
     notes = {a: [b for (x, b), route in ROUTES.items() if x == a and route[0] == "note"] for a in LAYERS}
 
