@@ -158,7 +158,7 @@ def reduced(rows, used):
 
 LIST_HEAD = """# The layers, in the order of reasoning
 
-Each layer uses only layers above it, and in a layer a crate uses only crates before it. [README.md](../README.md#layers)
+Each layer uses only layers above it, and a crate only crates before it in its layer. [README.md](../README.md#layers)
 says what each crate is for, and [docs/layers.svg](../docs/layers.svg) shows what uses what. `D` stands for definitions,
 `T` for theorems and laws, `C` for code with its contracts.
 
