@@ -121,9 +121,9 @@ extern "C" {
 
 /* Bytes of stack that a call needs at most. */
 #define DISPATCHER_OPEN_STACK 256
-#define DISPATCHER_QUOTE_STACK 4608
-#define DISPATCHER_OFFER_STACK 6656
-#define DISPATCHER_ADVANCE_STACK 8704
+#define DISPATCHER_QUOTE_STACK 2560
+#define DISPATCHER_OFFER_STACK 2560
+#define DISPATCHER_ADVANCE_STACK 4608
 
 /* The numbers that the calls below return. */
 #define DISPATCHER_DONE 0             /* the call is done */

@@ -128,7 +128,8 @@ fn put_zeros(out: &mut [u8], from: usize)
     }
 }
 
-// The whole image of a state. Neither the bytes of a number in another order nor a byte of the old image left beyond the
+// The whole image of a state. No call needs it, since each writes only what it changes: tests undo a decode with it, and what
+// has built a state can store it. Neither the bytes of a number in another order nor a byte of the old image left beyond the
 // live records meets the promise.
 pub fn encode(image: &mut [u8], p: Pipeline)
     requires { ⌜ (length (now image) ≡ imageSize) × (p .live ≤ maxLive) ⌝ }
