@@ -12,12 +12,12 @@ use Rattle.model.specs.Bytes.{twoBytes, fourBytes}
 use Rattle.model.specs.Layout.{mark, version, recordsAt, recordSize}
 use Rattle.model.specs.State.{State}
 use Rattle.model.specs.Tick.{vacate, starts, tick, leave, advance}
-use Rattle.model.specs.Image.{serviceBytes, encode}
+use Rattle.model.specs.Image.{serviceBytes, ordersOf, decode, encode}
 use Rattle.lists.specs.Stored.{Stored}
 use Rattle.lists.proofs.Stores.{stored-over}
 use Rattle.image.specs.declared.Pipeline.{Pipeline}
 use Rattle.image.specs.Pipeline.{listed}
-use Rattle.roundtrip.proofs.Written.{header, entries, after-header, entries-length}
+use Rattle.roundtrip.proofs.Written.{header, entries, after-header, entries-length, live-read, decode-encode}
 use Rattle.roundtrip.proofs.Overwritten.{rear, rear-length, header-over, records-over}
 use Rattle.sound_pipeline.specs.SoundPipeline.{SoundPipeline}
 use Rattle.sound_pipeline.proofs.Carried.{live-is, few}
@@ -30,11 +30,6 @@ unfolding listed
 stations ok e = let facts = ok .sound .facts in (omega (arith, e, facts .n-low), omega (arith, e, facts .n-high))
 
 module _ {p : Pipeline} (ok : SoundPipeline p) where
-  -- Its records are as its steps ask for them.
-  pub held : Held (p .n) (p .orders) (p .live)
-  unfolding listed
-  held = record { queue = queue ok; high = λ o m. ok .sound .facts .orders o m .station-high }
-
   -- Its image: the live records, and zeros after them.
   abbrev live : List Order
   live = take (p .live) (p .orders)
@@ -58,14 +53,29 @@ module _ {p : Pipeline} (ok : SoundPipeline p) where
   over : {v m : List ℕ} → length (rows live) ≡ length v → Stored (encode (listed p)) recordsAt v m → m ≡ header (listed p) ++ (entries (listed p) ++ (v ++ zeros))
   over h w = records-over (listed p) (ok .sound .in-range) (rows live) zeros parted h w
 
-  pub holds : Holds (encode (listed p)) live
+  -- The orders that stand in its image are its live orders: they are as `leave` asks for them.
+  same-orders : ordersOf (encode (listed p)) (p .live) ≡ live
+  unfolding decode listed
+  same-orders =
+      ap (λ (k : ℕ). ordersOf (encode (listed p)) k) (live-is ok ∙ sym (live-read (listed p)))
+      ∙ ap (λ (s : State). s .orders) (decode-encode (listed p) (ok .sound .in-range))
+
+  pub held : Held (p .n) (ordersOf (encode (listed p)) (p .live))
+  unfolding listed
+  held = rw same-orders (record { room = omega (arith, count, few ok); placed = queue ok .placed; high = λ o m. ok .sound .facts .orders o m .station-high })
+
+  pub holds : Holds (encode (listed p)) (ordersOf (encode (listed p)) (p .live))
   holds =
-      record {
+      rw same-orders
+      (record {
         there = record { is = after-header (listed p) ∙ ap (λ (r : List ℕ). header (listed p) ++ (entries (listed p) ++ r)) parted ∙ sym (over {v = rows live} refl (record { is = refl })) };
         long = rows-long ∙ ap (λ (k : ℕ). recordSize * k) (sym count);
-      }
+      })
 
-  module _ {services : List Service} {kept : ℕ} {a : List ℕ} (left : Left (p .n) services (p .orders) (p .live) (encode (listed p)) kept a) where
+  module _ {services : List Service} {kept : ℕ} {a : List ℕ} (came : Left (p .n) services (ordersOf (encode (listed p)) (p .live)) (p .live) (encode (listed p)) kept a) where
+    left : Left (p .n) services live (p .live) (encode (listed p)) kept a
+    left = rw same-orders at came
+
     abbrev rest : List Order
     rest = remaining (p .n) services live
 

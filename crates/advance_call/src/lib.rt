@@ -31,21 +31,21 @@ use questions::Answer;
 use station_entries::vacate::ticket_out;
 use station_entries::vacate::vacate_all;
 
-// What changes of the image: the records if an order leaves a station, header and station entries. Neither the clock left as it was
-// nor a station entry not written meets the promise.
+// Writes what changes of the image: the records if an order leaves a station, the header and the station entries. Neither the
+// clock left as it was nor a station entry that keeps an order that has left meets the promise.
 fn put_after(image: &mut [u8], p: Pipeline, services: [Service; 8])
     requires { ⌜ (length (now image) ≡ imageSize) × (now image ≡ says.encode (listed p)) × SoundPipeline p × (p .clock < lastTick) × (services ≡ tick (starts (listed p)) .services) ⌝ }
     ensures { λ _. ⌜ now (image .exit) ≡ says.encode (advance (listed p)) ⌝ }
 {
-    let orders = p.orders;
     let vacant = vacate_all(services);
-    let kept = leave(image, wide32(p.n), services, orders, wide(p.live));
+    let kept = leave(image, wide32(p.n), services, wide(p.live));
     put_header(image, p.n, kept as u8, p.clock + 1, p.next);
     put_services(image, vacant);
 }
 
-// Question 13, which is asked of the state, and the course of one tick. Neither a clock that goes past its end nor the clock
-// from before in the reply meets the promise.
+// Question 13 and the course of one tick. The question is asked of the image's clock before the records are read: asked of the
+// state after that, it costs a copy of the records. Neither a clock that goes past its end nor the clock from before in the
+// reply meets the promise.
 pub fn advanced(image: &mut [u8], reply: &mut [u8]) -> u32
     requires { ⌜ Usable (now image) (now reply) ⌝ }
     ensures { λ r. ⌜ Gives (advanceCall (now (image .entry)) (now (reply .entry))) r (now (image .exit)) (now (reply .exit)) ⌝ }

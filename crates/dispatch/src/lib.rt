@@ -10,8 +10,8 @@ use starting::started;
 use station_entries::tick::tick_all;
 
 // "Advance does this, in order": the station entries once each idle station has started an order and each order in service has
-// one tick less to go. Those with nothing to go are about to leave. Neither a tick taken off before the starts nor an order that
-// starts and keeps its whole cost meets the promise.
+// one tick less to go. Those with nothing to go are about to leave. Neither a tick without starts nor an order that starts and
+// keeps its whole cost to go meets the promise.
 pub fn served(p: Pipeline) -> [Service; 8]
     requires { ⌜ SoundPipeline p ⌝ }
     ensures { λ r. ⌜ r ≡ tick (starts (listed p)) .services ⌝ }

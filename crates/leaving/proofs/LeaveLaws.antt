@@ -5,8 +5,8 @@ use mathlib.Core.List.{List, [], _∷_, _++_, map, map-append, append-nil, List�
 use Prim.Native.Nat.{ℕ, zero, suc, _+_, _-_, _*_, _≤_, _<_}
 use native.Mathlib.Numerals.{add-one}
 use native.Mathlib.Omega.{arith}
-use lib.ListN.{length, length-append, length-replicate, getD, take, replicate, replicate-append-replicate}
-use lib.Seq.{take-suc, length-take-le}
+use lib.ListN.{length, length-append, length-replicate, getD, take, drop, replicate, replicate-append-replicate}
+use lib.Seq.{take-suc, take-all, drop-drop}
 use lib.Dec.{leb, eqb}
 use borrow.Author.Tests.{le-leb, eqb-true, ne-eqb}
 use Rattle.model.specs.declared.Order.{Order}
@@ -14,18 +14,18 @@ use Rattle.model.specs.declared.Service.{Service}
 use Rattle.model.specs.Limits.{maxLive}
 use Rattle.model.specs.Lists.{isZero, any, only, concat}
 use Rattle.model.specs.State.{idle}
-use Rattle.model.specs.Layout.{recordsAt, recordSize}
-use Rattle.model.specs.Image.{orderBytes}
+use Rattle.model.specs.Layout.{imageSize, recordsAt, recordSize, recordPart}
+use Rattle.model.specs.Image.{orderOf, orderBytes, ordersOf}
 use Rattle.model.specs.Tick.{view, stationAfter, moveTo}
 use Rattle.lists.specs.Stored.{Stored}
-use Rattle.lists.proofs.Stores.{stored-none, stored-then}
+use Rattle.lists.proofs.Stores.{stored-none, stored-then, stored-past}
 use Rattle.lists.proofs.Tests.{either, both-false}
-use Rattle.lists.proofs.Fills.{past, concat-append, concat-one}
+use Rattle.lists.proofs.Fills.{past, length-upward, getD-upward, concat-append, concat-one}
 use Rattle.schedule.specs.Valid.{_∈_}
 use Rattle.schedule.specs.Pass.{moved}
+use Rattle.roundtrip.proofs.Rows.{getD-in}
 use Rattle.image.specs.Pipeline.{unused}
-use Rattle.selection.specs.Candidates.{Placed, Queue}
-use Rattle.selection.proofs.CandidateLaws.{placed-at}
+use Rattle.selection.specs.Candidates.{Placed}
 use Rattle.station_entries.proofs.StationLaws.{at-place}
 use Rattle.leaving.specs.Remaining.{finishes, movedBy, remaining, rows, Held, Holds, Moved, Left}
 
@@ -81,21 +81,34 @@ module _ (services : List Service) (quiet : any finishes services ≡ false) whe
       let there = each o (List·Memᴰ·head refl) in
       rw (unmoved o (there .0), le-leb (o .station) n (there .1)) (ap (λ t. o ∷ t) (all-stay n orders (λ x m. each x (List·Memᴰ·tail m))))
 
-module _ {n : ℕ} (services : List Service) {orders : List Order} (long : length orders ≡ maxLive) where
+module _ {n : ℕ} (services : List Service) {orders : List Order} (held : Held n orders) where
   -- Nothing yet.
   pub none-yet : (l : List ℕ) → Moved n services orders 0 l 0 l
   unfolding remaining only concat
   none-yet l = record { few = omega arith; count = refl; stored = stored-none l recordsAt; long = refl }
 
-  module _ {live : ℕ} (queue : Queue orders live) {i kept : ℕ} {l mid : List ℕ} (so-far : Moved n services orders i l kept mid) (more : i < live) where
-    pub next-placed : Placed (getD orders i past)
-    next-placed = placed-at long queue i more
+  module _ {i kept : ℕ} {l mid : List ℕ} (so-far : Moved n services orders i l kept mid) (more : i < length orders) where
+    next-placed : Placed (getD orders i past)
+    next-placed = held .placed (getD orders i past) (getD-in orders past i more)
+
+    -- The record at place i is still as it was.
+    pub next-record : length l ≡ imageSize → recordPart mid i ≡ recordPart l i
+    next-record whole =
+        let v = rows (remaining n services (take i orders)) in
+        let same : drop (recordsAt + length v) mid ≡ drop (recordsAt + length v) l = stored-past (so-far .stored) (omega (arith, so-far .long, so-far .few, more, held .room, whole)) in
+        let on : recordsAt + length v + recordSize * (i - kept) ≡ recordsAt + recordSize * i = omega (arith, so-far .long, so-far .few) in
+        ap (take recordSize)
+        (ap (λ (k : ℕ). drop k mid) (sym on)
+        ∙ sym (drop-drop (recordSize * (i - kept)) (recordsAt + length v) mid)
+        ∙ ap (drop (recordSize * (i - kept))) same
+        ∙ drop-drop (recordSize * (i - kept)) (recordsAt + length v) l
+        ∙ ap (λ (k : ℕ). drop k l) on)
 
     -- One order more: the next record, moved.
-    module _ {m : Order} (is : m ≡ movedBy (getD services (getD orders i past .station - 1) idle) (getD orders i past)) where
+    module _ {o m : Order} (read : o ≡ getD orders i past) (is : m ≡ movedBy (getD services (o .station - 1) idle) o) where
       one-more : map (moved services) (take (i + 1) orders) ≡ map (moved services) (take i orders) ++ (m ∷ [])
       one-more =
-          rw (add-one i, take-suc orders i past (omega (arith, more, queue .room, long)), is, moved-by services (getD orders i past) (next-placed .low)) (map-append (moved services) (take i orders) (getD orders i past ∷ []))
+          rw (add-one i, take-suc orders i past more, is, read, moved-by services (getD orders i past) (next-placed .low)) (map-append (moved services) (take i orders) (getD orders i past ∷ []))
 
       stays : leb (m .station) n ≡ true → remaining n services (take (i + 1) orders) ≡ remaining n services (take i orders) ++ (m ∷ [])
       unfolding remaining
@@ -126,6 +139,26 @@ module _ {n : ℕ} (services : List Service) {orders : List Order} (long : lengt
             long = rw (stays e, more-rows, length-append (rows rest) (orderBytes m), so-far .long, h) (omega arith);
           }
 
+-- The live orders of an image.
+module _ (l : List ℕ) (live : ℕ) where
+  count-is : length (ordersOf l live) ≡ live
+  count-is = length-upward 0 live (λ k. orderOf (recordPart l k))
+
+  module _ {n : ℕ} (held : Held n (ordersOf l live)) where
+    pub room-for : live ≤ maxLive
+    room-for = omega (arith, count-is, held .room)
+
+    pub below : (i : ℕ) → i < live → i < length (ordersOf l live)
+    below i h = omega (arith, count-is)
+
+    -- The order that is read at place i is the next of them, at one of the stations.
+    module _ {services : List Service} (whole : length l ≡ imageSize) {i kept : ℕ} {mid : List ℕ} (so-far : Moved n services (ordersOf l live) i l kept mid) (more : i < live) {o : Order} (is : o ≡ orderOf (recordPart mid i)) where
+      pub next-read : o ≡ getD (ordersOf l live) i past
+      next-read = is ∙ ap orderOf (next-record services held so-far (below i more) whole) ∙ sym (getD-upward live (λ k. orderOf (recordPart l k)) i past more)
+
+      pub placed-here : Placed o
+      placed-here = rw next-read (held .placed _ (getD-in (ordersOf l live) past i (below i more)))
+
 -- A record without an order is zeros: one more of them.
 pub unused-more : (kept j : ℕ) {l mid t : List ℕ} {o : Order} → kept ≤ j → Stored l (recordsAt + recordSize * kept) (replicate (recordSize * (j - kept)) 0) mid → o ≡ unused → Stored mid (recordsAt + recordSize * j) (orderBytes o) t → Stored l (recordsAt + recordSize * kept) (replicate (recordSize * (j + 1 - kept)) 0) t
 unfolding orderBytes concat
@@ -136,18 +169,21 @@ unused-more kept j h w e s =
     (stored-then w (rw (length-replicate {A = ℕ} (recordSize * (j - kept)) 0) (omega arith)) zeros)
 
 -- All live orders have moved, and the records that are then free are zero; or no order leaves a station, and the records stay as they are.
-module _ {n : ℕ} {services : List Service} {orders : List Order} {live : ℕ} where
-  pub left : {kept : ℕ} {l mid t : List ℕ} → Moved n services orders live l kept mid → Stored mid (recordsAt + recordSize * kept) (replicate (recordSize * (live - kept)) 0) t → Left n services orders live l kept t
-  left m w = record { few = m .few; count = m .count; stored = stored-then (m .stored) (rw (m .long)) w; long = m .long }
+module _ (l : List ℕ) (live : ℕ) {n : ℕ} {services : List Service} where
+  pub left : {kept : ℕ} {mid t : List ℕ} → Moved n services (ordersOf l live) live l kept mid → Stored mid (recordsAt + recordSize * kept) (replicate (recordSize * (live - kept)) 0) t → Left n services (ordersOf l live) live l kept t
+  left m w =
+      let all-of-them : take live (ordersOf l live) ≡ ordersOf l live = take-all live (ordersOf l live) (omega (arith, count-is l live)) in
+      let long = rw all-of-them at (m .long) in
+      record { few = m .few; count = rw all-of-them at (m .count); stored = stored-then (rw all-of-them at (m .stored)) (rw long) w; long = long }
 
-  pub none-leaves : length orders ≡ maxLive → Held n orders live → any finishes services ≡ false → {l : List ℕ} → Holds l (take live orders) → Left n services orders live l live l
-  none-leaves whole held quiet holds =
-      let all-there = all-stay services quiet n (take live orders) (λ o m. (held .queue .placed o m, held .high o m)) in
-      let count : length (take live orders) ≡ live = length-take-le live orders (omega (arith, whole, held .queue .room)) in
+  pub none-leaves : Held n (ordersOf l live) → any finishes services ≡ false → Holds l (ordersOf l live) → Left n services (ordersOf l live) live l live l
+  none-leaves held quiet holds =
+      let orders = ordersOf l live in
+      let all-there = all-stay services quiet n orders (λ o m. (held .placed o m, held .high o m)) in
       let none : recordSize * (live - live) ≡ 0 = omega arith in
       record {
         few = omega arith;
-        count = rw (all-there, count);
-        stored = rw (all-there, none, append-nil (rows (take live orders))) (holds .there);
-        long = rw all-there (rw count at (holds .long));
+        count = rw all-there (sym (count-is l live));
+        stored = rw (all-there, none, append-nil (rows orders)) (holds .there);
+        long = rw all-there (rw (count-is l live) at (holds .long));
       }

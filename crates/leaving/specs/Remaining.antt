@@ -8,6 +8,7 @@ use lib.ListN.{length, take, replicate}
 use lib.Dec.{leb, eqb}
 use Rattle.model.specs.declared.Order.{Order}
 use Rattle.model.specs.declared.Service.{Service}
+use Rattle.model.specs.Limits.{maxLive}
 use Rattle.model.specs.Lists.{isZero, only, concat}
 use Rattle.model.specs.Layout.{recordsAt, recordSize}
 use Rattle.model.specs.Image.{orderBytes}
@@ -15,7 +16,7 @@ use Rattle.model.specs.Tick.{moveTo}
 use Rattle.lists.specs.Stored.{Stored}
 use Rattle.schedule.specs.Valid.{_∈_}
 use Rattle.schedule.specs.Pass.{moved}
-use Rattle.selection.specs.Candidates.{Queue}
+use Rattle.selection.specs.Candidates.{Placed}
 
 -- Whether an order leaves the station of this entry.
 unfoldable pub finishes : Service → Bool
@@ -28,10 +29,11 @@ movedBy e o = moveTo (cond (eqb (e .ticket) (o .ticket) && isZero (e .left)) (o 
 unfoldable pub remaining : ℕ → List Service → List Order → List Order
 remaining n services orders = only (λ o. leb (o .station) n) (map (moved services) orders)
 
--- An array of records as a sound state has it: the first `live` are orders at stations up to n.
-pub record Held (n : ℕ) (orders : List Order) (live : ℕ) : Type 0 where
-  pub queue : Queue orders live
-  pub high : (o : Order) → o ∈ take live orders → o .station ≤ n
+-- Live orders as a sound state has them: at most 32, each with a ticket, and at a station up to n.
+pub record Held (n : ℕ) (orders : List Order) : Type 0 where
+  pub room : length orders ≤ maxLive
+  pub placed : (o : Order) → o ∈ orders → Placed o
+  pub high : (o : Order) → o ∈ orders → o .station ≤ n
 
 -- The bytes of records, one after the other.
 abbrev pub rows : List Order → List ℕ
@@ -49,9 +51,9 @@ pub record Moved (n : ℕ) (services : List Service) (orders : List Order) (i : 
   pub stored : Stored l recordsAt (rows (remaining n services (take i orders))) m
   pub long : length (rows (remaining n services (take i orders))) ≡ recordSize * kept
 
--- The same of the live orders, and the records that are then free are zero.
+-- The same of all of them, `live` in number, and the records that are then free are zero.
 pub record Left (n : ℕ) (services : List Service) (orders : List Order) (live : ℕ) (l : List ℕ) (kept : ℕ) (m : List ℕ) : Type 0 where
   pub few : kept ≤ live
-  pub count : kept ≡ length (remaining n services (take live orders))
-  pub stored : Stored l recordsAt (rows (remaining n services (take live orders)) ++ replicate (recordSize * (live - kept)) 0) m
-  pub long : length (rows (remaining n services (take live orders))) ≡ recordSize * kept
+  pub count : kept ≡ length (remaining n services orders)
+  pub stored : Stored l recordsAt (rows (remaining n services orders) ++ replicate (recordSize * (live - kept)) 0) m
+  pub long : length (rows (remaining n services orders)) ≡ recordSize * kept

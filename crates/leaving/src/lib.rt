@@ -2,14 +2,15 @@
 ghost use mathlib.Core.Path.{_≡_};
 ghost use mathlib.Core.Bool.{cond, _&&_};
 ghost use Prim.Native.Nat.{_+_, _-_, _*_, _≤_};
-ghost use lib.ListN.{length, take, replicate};
+ghost use lib.ListN.{length, replicate};
 ghost use lib.Dec.{eqb};
 ghost use Rattle.model.specs.Limits.{maxStations, maxLive};
 ghost use Rattle.model.specs.Lists.{isZero, any};
 ghost use Rattle.model.specs.Layout.{imageSize, recordsAt, recordSize};
+ghost use Rattle.model.specs.Image.{ordersOf};
 ghost use Rattle.lists.specs.Stored.{Stored};
-ghost use Rattle.selection.specs.Candidates.{Queue};
 ghost use Rattle.leaving.specs.Remaining.{finishes, movedBy, Held, Holds, Moved, Left};
+use image::decode::order_at;
 use image::layout::RECORD_SIZE;
 use image::layout::RECORDS_AT;
 use image::unused_order;
@@ -53,23 +54,17 @@ fn any_leaves(services: [Service; 8]) -> bool
     leaves
 }
 
-// Goes once over the live orders: each moves, and stays a record unless it is past station n. The records of those that stay
-// are written into the image from the first on; how many they are. Neither an order at station n removed nor one that is out
-// kept meets the promise.
-fn put_remaining(
-    image: &mut [u8],
-    n: u32,
-    services: [Service; 8],
-    orders: [Order; 32],
-    live: usize,
-) -> usize
-    requires { ⌜ (length (now image) ≡ imageSize) × Queue orders live ⌝ }
-    ensures { λ r. ⌜ Moved n services orders live (now (image .entry)) r (now (image .exit)) ⌝ }
+// Goes once over the live records of the image: each order moves, and its record is put back, behind those that stay, unless it
+// is past station n; how many stay. A record is read before any is put in its place. Neither an order at station n removed nor
+// one that is out kept meets the promise.
+fn put_remaining(image: &mut [u8], n: u32, services: [Service; 8], live: usize) -> usize
+    requires { ⌜ (length (now image) ≡ imageSize) × Held n (ordersOf (now image) live) ⌝ }
+    ensures { λ r. ⌜ Moved n services (ordersOf (now (image .entry)) live) live (now (image .entry)) r (now (image .exit)) ⌝ }
 {
     let mut kept: usize = 0;
     let mut i: usize = 0;
     while i < live {
-        let o = orders[i];
+        let o = order_at(image, i);
         let k = (o.station - 1) as usize;
         let m = moved(services[k], o);
         if m.station <= n {
@@ -94,19 +89,14 @@ fn put_unused(image: &mut [u8], kept: usize, live: usize)
 }
 
 // The records after the tick, in the place of those from before it, and how many they are. In a tick in which no order leaves a
-// station they are as they were, and nothing is written. A record left behind of an order that is out does not meet the promise.
-pub fn leave(
-    image: &mut [u8],
-    n: u32,
-    services: [Service; 8],
-    orders: [Order; 32],
-    live: usize,
-) -> usize
-    requires { ⌜ (length (now image) ≡ imageSize) × Held n orders live × Holds (now image) (take live orders) ⌝ }
-    ensures { λ r. ⌜ Left n services orders live (now (image .entry)) r (now (image .exit)) ⌝ }
+// station they are as they were, and nothing is written. The record of an order that is out, left behind, does not meet the
+// promise.
+pub fn leave(image: &mut [u8], n: u32, services: [Service; 8], live: usize) -> usize
+    requires { ⌜ (length (now image) ≡ imageSize) × Held n (ordersOf (now image) live) × Holds (now image) (ordersOf (now image) live) ⌝ }
+    ensures { λ r. ⌜ Left n services (ordersOf (now (image .entry)) live) live (now (image .entry)) r (now (image .exit)) ⌝ }
 {
     if any_leaves(services) {
-        let kept = put_remaining(image, n, services, orders, live);
+        let kept = put_remaining(image, n, services, live);
         put_unused(image, kept, live);
         return kept;
     }

@@ -15,8 +15,8 @@ wide-requires c κs = search needs
 
 leave-requires : tie.Need-leave-requires
 leave-requires c κs =
-    let pre = c .before .before .before .before .before .before .pre in
-    rw (c .before .wide32 .ensures, c .wide .ensures) (pre .0, held (pre .2), rw (pre .1) (holds (pre .2)))
+    let pre = c .before .before .before .before .before .pre in
+    rw (c .before .wide32 .ensures, c .wide .ensures, pre .1) (rw (pre .1) at (pre .0), held (pre .2), holds (pre .2))
 
 cast-put-header : tie.Need-cast-put-header
 cast-put-header c = search needs
@@ -39,7 +39,7 @@ returns c =
     let header = services .before .before .before .before in
     let leave = header .before .before .before .before .before in
     let vacate = leave .before .before .before .before in
-    let pre = vacate .before .before .before .pre in
+    let pre = vacate .before .before .pre in
     let left = rw (leave .before .before .wide32 .ensures, leave .before .wide .ensures, pre .1) at (leave .leave .ensures) in
     let entries = rw (vacate .vacate-all .ensures) at (services .put-services .ensures) in
     written (pre .2) left (pre .4) (header .put-header .ensures) (entries .0) (entries .1)

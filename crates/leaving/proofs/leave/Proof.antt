@@ -1,9 +1,7 @@
 -- By the test: the records of those that remain, and zeros; or nothing.
-use mathlib.Core.Path.{_≡_, sym, _∙_}
-use lib.ListN.{length}
+use mathlib.Core.Path.{sym, _∙_}
 use borrow.Author.Needs.{needs}
-use Rattle.model.specs.Limits.{maxLive}
-use Rattle.leaving.proofs.LeaveLaws.{left, none-leaves}
+use Rattle.leaving.proofs.LeaveLaws.{room-for, left, none-leaves}
 use Rattle.leaving.proofs.leave.Statement.{statement}
 use Rattle.leaving.proofs.leave.Tie as tie
 
@@ -14,7 +12,7 @@ put-remaining-requires : tie.Need-put-remaining-requires
 put-remaining-requires c κs = search needs
 
 put-unused-requires : tie.Need-put-unused-requires
-put-unused-requires c κs = search needs
+put-unused-requires c κs = (search needs, c .before .before .before .put-remaining .ensures .few, room-for _ _ (c .before .before .before .before .before .before .before .before .pre .1))
 
 same-length : tie.Need-same-length
 same-length c = search needs
@@ -22,15 +20,12 @@ same-length c = search needs
 returns : tie.Need-returns
 returns c =
     let unused = c .before .before in
-    left (unused .before .before .before .before .put-remaining .ensures) (unused .put-unused .ensures)
-
-orders-long : (c : tie.Start) → length (c .args .orders) ≡ maxLive
-orders-long c = search needs
+    left _ _ (unused .before .before .before .before .put-remaining .ensures) (unused .put-unused .ensures)
 
 returns-2 : tie.Need-returns-2
 returns-2 c =
     let top = c .before .before .before in
-    none-leaves (orders-long top) (top .pre .1) (sym (c .before .any-leaves .ensures) ∙ c .if1 .left) (top .pre .2)
+    none-leaves _ _ (top .pre .1) (sym (c .before .any-leaves .ensures) ∙ c .if1 .left) (top .pre .2)
 
 pub leave-spec : {M : Type 1} → statement M
 leave-spec =
