@@ -123,7 +123,7 @@ extern "C" {
 #define DISPATCHER_OPEN_STACK 256
 #define DISPATCHER_QUOTE_STACK 2560
 #define DISPATCHER_OFFER_STACK 2560
-#define DISPATCHER_ADVANCE_STACK 4608
+#define DISPATCHER_ADVANCE_STACK 2816
 
 /* The numbers that the calls below return. */
 #define DISPATCHER_DONE 0             /* the call is done */
