@@ -1,28 +1,18 @@
 // The line that a program prints of a call, into a lent buffer. Each function stores one text of specs/ReplyLine.antt from a
 // place on, leaves every other byte alone, and answers the place after the last byte stored.
-ghost use mathlib.Core.List.{_++_};
 ghost use Prim.Native.Nat.{_+_, _≤_};
 ghost use lib.ListN.{length};
 ghost use Rattle.lists.specs.Stored.{Put};
-ghost use Rattle.text.specs.Decimal.{decimal};
 ghost use Rattle.case_lines.specs.ReplyLine.{signed, replyFigures, replyMargin, replyLine};
 use image::layout::REPLY_MARGIN_AT;
 use image::layout::REPLY_NUMBER_AT;
 use image::layout::REPLY_TICK_AT;
 use image::layout::REPLY_TICKET_AT;
 use little_endian_reader::u32_at;
+use report::put_figure;
 
 // The least of the 32 bits that stand for a number below zero.
 const BELOW_ZERO: u32 = 2147483648;
-
-// A word and a number, with nothing between them.
-fn put_figure(out: &mut [u8], at: usize, word: &[u8], v: u32) -> usize
-    requires { ⌜ at + length (now word ++ decimal v) ≤ length (now out) ⌝ }
-    ensures { λ r. ⌜ Put (now (out .entry)) at (now (word .entry) ++ decimal v) r (now (out .exit)) ⌝ }
-{
-    let end = text::put_bytes(out, at, word);
-    text::put_decimal(out, end, v as u64)
-}
 
 // A margin, by its bits. Ruled out: 4294967295 for -1; a sign before a number that is not below zero.
 fn put_signed(out: &mut [u8], at: usize, bits: u32) -> usize

@@ -5,7 +5,7 @@ use mathlib.Core.Bool.{true}
 use mathlib.Core.Logic.{_≢_, inl, inr}
 use mathlib.Core.List.{List, [], _∷_, List·Memᴰ, List·Memᴰ·not-nil, List·Memᴰ·cases-cons}
 use mathlib.Core.Option.{none, some, Option·some-injective, Option·some-ne-none}
-use Prim.Native.Nat.{ℕ, suc}
+use Prim.Native.Nat.{ℕ, suc, _≤_}
 use native.Mathlib.Omega.{arith}
 use lib.ListN.{getD, replicate}
 use borrow.Author.Tests.{leb-true}
@@ -35,6 +35,15 @@ out-at {out} {t} q = sym (Option·some-injective out t q)
 not-live : {A : Type 0} {out : ℕ} → some out ≡ none → A
 not-live {out = out} q = absurd (Option·some-ne-none out q)
 
+-- An order that is out, by its bound and by its due tick.
+out-by : (run : Run) (x : Entry) (tick : ℕ) → x .out ≡ some tick → tick ≤ entryBound (run .history) x → tick ≤ entryDue x → InTime run x
+out-by run x tick out bound due =
+    record {
+      out-in-time = λ t q. let e = out-at (sym out ∙ q) in (omega (arith, e, bound), omega (arith, e, due));
+      live-in-time = λ q. not-live (sym out ∙ q);
+      can-advance = λ q. not-live (sym out ∙ q);
+    }
+
 two-orders : (run : Run) (x y : Entry) → InTime run x → InTime run y → (e : Entry) → List·Memᴰ e (x ∷ y ∷ []) → InTime run e
 two-orders run x y p q e m =
     elim (List·Memᴰ·cases-cons m) [
@@ -54,27 +63,13 @@ mixed-x : InTime mixed (order mixed 0)
 unfolding holdsFrom listStart mixedCalls X Y started afterCall outcome afterAll
 mixed-x =
     after mixed-allowed
-    (let out : order mixed 0 .out ≡ some 5 = refl in
-    let bound = leb-true 5 (entryBound (mixed .history) (order mixed 0)) (refl {a = true}) in
-    let due = leb-true 5 (entryDue (order mixed 0)) (refl {a = true}) in
-    record {
-      out-in-time = λ t q. let e = out-at (sym out ∙ q) in (omega (arith, e, bound), omega (arith, e, due));
-      live-in-time = λ q. not-live (sym out ∙ q);
-      can-advance = λ q. not-live (sym out ∙ q);
-    })
+    (out-by mixed (order mixed 0) 5 refl (leb-true 5 (entryBound (mixed .history) (order mixed 0)) (refl {a = true})) (leb-true 5 (entryDue (order mixed 0)) (refl {a = true})))
 
 mixed-y : InTime mixed (order mixed 1)
 unfolding holdsFrom listStart mixedCalls X Y started afterCall outcome afterAll
 mixed-y =
     after mixed-allowed
-    (let out : order mixed 1 .out ≡ some 7 = refl in
-    let bound = leb-true 7 (entryBound (mixed .history) (order mixed 1)) (refl {a = true}) in
-    let due = leb-true 7 (entryDue (order mixed 1)) (refl {a = true}) in
-    record {
-      out-in-time = λ t q. let e = out-at (sym out ∙ q) in (omega (arith, e, bound), omega (arith, e, due));
-      live-in-time = λ q. not-live (sym out ∙ q);
-      can-advance = λ q. not-live (sym out ∙ q);
-    })
+    (out-by mixed (order mixed 1) 7 refl (leb-true 7 (entryBound (mixed .history) (order mixed 1)) (refl {a = true})) (leb-true 7 (entryDue (order mixed 1)) (refl {a = true})))
 
 pub mixed-kept : Kept (replicate imageSize 165) 2 (lent replySize) mixedCalls
 unfolding holdsFrom listStart mixedCalls X Y started afterCall outcome afterAll isAt outAt
@@ -97,27 +92,13 @@ reversed-x : InTime reversed (order reversed 0)
 unfolding holdsFrom listStart reversedCalls X Y started afterCall outcome afterAll
 reversed-x =
     after mixed-kept
-    (let out : order reversed 0 .out ≡ some 6 = refl in
-    let bound = leb-true 6 (entryBound (reversed .history) (order reversed 0)) (refl {a = true}) in
-    let due = leb-true 6 (entryDue (order reversed 0)) (refl {a = true}) in
-    record {
-      out-in-time = λ t q. let e = out-at (sym out ∙ q) in (omega (arith, e, bound), omega (arith, e, due));
-      live-in-time = λ q. not-live (sym out ∙ q);
-      can-advance = λ q. not-live (sym out ∙ q);
-    })
+    (out-by reversed (order reversed 0) 6 refl (leb-true 6 (entryBound (reversed .history) (order reversed 0)) (refl {a = true})) (leb-true 6 (entryDue (order reversed 0)) (refl {a = true})))
 
 reversed-y : InTime reversed (order reversed 1)
 unfolding holdsFrom listStart reversedCalls X Y started afterCall outcome afterAll
 reversed-y =
     after mixed-kept
-    (let out : order reversed 1 .out ≡ some 3 = refl in
-    let bound = leb-true 3 (entryBound (reversed .history) (order reversed 1)) (refl {a = true}) in
-    let due = leb-true 3 (entryDue (order reversed 1)) (refl {a = true}) in
-    record {
-      out-in-time = λ t q. let e = out-at (sym out ∙ q) in (omega (arith, e, bound), omega (arith, e, due));
-      live-in-time = λ q. not-live (sym out ∙ q);
-      can-advance = λ q. not-live (sym out ∙ q);
-    })
+    (out-by reversed (order reversed 1) 3 refl (leb-true 3 (entryBound (reversed .history) (order reversed 1)) (refl {a = true})) (leb-true 3 (entryDue (order reversed 1)) (refl {a = true})))
 
 pub reversed-kept : Kept (replicate imageSize 165) 2 (lent replySize) reversedCalls
 unfolding holdsFrom listStart reversedCalls X Y started afterCall outcome afterAll isAt outAt

@@ -10,7 +10,6 @@ use borrow.Author.Tests.{eq-eqb, ne-eqb}
 use Rattle.model.specs.declared.Block.{Block}
 use Rattle.model.specs.Lists.{isZero}
 use Rattle.model.specs.Bytes.{word, fourBytes, bits32}
-use Rattle.model.specs.State.{State}
 use Rattle.model.specs.Layout.{imageSize, nextAt, blockSize, replySize}
 use Rattle.model.specs.Image.{decode, encode}
 use Rattle.model.specs.Questions.{firstNo, Answer, replyBytes}

@@ -37,7 +37,6 @@ costs-under (suc m) (suc n) (c ∷ l) h e =
 pub record InRange (n : ℕ) (t : Task) : Type 0 where
   pub period-low : 1 ≤ t .period
   pub period-high : t .period ≤ maxPeriod
-  pub deadline-low : 1 ≤ t .deadline
   pub deadline-high : t .deadline ≤ t .period
   pub cost-high : largestCost n t ≤ maxCost
   pub stages-high : largest (stageCosts n t) ≤ maxCost
@@ -52,7 +51,6 @@ in-range n t e =
     record {
       period-low = period .0;
       period-high = period .1;
-      deadline-low = deadline .0;
       deadline-high = deadline .1;
       cost-high = costs-under n n (t .costs) (omega arith) (three .1);
       stages-high = costs-under (n - 1) n (t .costs) (omega arith) (three .1);

@@ -15,7 +15,7 @@ use model::Order;
 use model::Service;
 
 // A word and a number, with nothing between them.
-fn put_figure(out: &mut [u8], at: usize, word: &[u8], v: u32) -> usize
+pub fn put_figure(out: &mut [u8], at: usize, word: &[u8], v: u32) -> usize
     requires { ⌜ at + length (now word ++ decimal v) ≤ length (now out) ⌝ }
     ensures { λ r. ⌜ Put (now (out .entry)) at (now (word .entry) ++ decimal v) r (now (out .exit)) ⌝ }
 {

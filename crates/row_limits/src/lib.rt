@@ -7,12 +7,7 @@ ghost use Rattle.model.specs.Limits.{maxStations};
 ghost use Rattle.model.specs.Lists.{total};
 ghost use Rattle.row_limits.specs.Limits.{firstPlaces, limitsOf, Made};
 use model::limits::MAX_COST;
-
-fn wide(x: u16) -> u32
-    ensures { λ r. ⌜ (r ≡ x) × (r < 65536) ⌝ }
-{
-    x as u32
-}
+use row_soundness::wide;
 
 // For a pipeline of n stations.
 pub struct Limits {

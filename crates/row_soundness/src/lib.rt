@@ -10,7 +10,8 @@ ghost use Rattle.model.specs.Soundness.{costsInRange, zeroBeyond};
 ghost use Rattle.row_soundness.specs.Maxima.{maximaHold};
 use model::limits::MAX_COST;
 
-fn wide(x: u16) -> u32
+// An entry among sums.
+pub fn wide(x: u16) -> u32
     ensures { λ r. ⌜ (r ≡ x) × (r < 65536) ⌝ }
 {
     x as u32

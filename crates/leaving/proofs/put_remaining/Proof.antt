@@ -3,14 +3,13 @@ use mathlib.Core.Path.{_≡_, _∙_}
 use mathlib.Core.Logic.{⊎-elim}
 use Prim.Native.Nat.{_-_, _≤_, _<_}
 use native.Mathlib.Omega.{arith}
-use lib.ListN.{length, getD}
+use lib.ListN.{length}
 use borrow.Author.Tests.{le-leb, lt-leb}
 use borrow.Author.Needs.{needs}
 use Rattle.model.specs.Limits.{maxLive}
 use Rattle.model.specs.Layout.{imageSize}
 use Rattle.model.specs.Image.{ordersOf}
 use Rattle.lists.proofs.Stores.{stored-length}
-use Rattle.lists.proofs.Fills.{past}
 use Rattle.selection.specs.Candidates.{Placed}
 use Rattle.leaving.specs.Remaining.{Moved}
 use Rattle.leaving.proofs.LeaveLaws.{none-yet, room-for, below, next-read, placed-here, one-stays, one-out}
