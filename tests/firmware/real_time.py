@@ -1,5 +1,6 @@
 #!/usr/bin/env python3
-"""real_time.py PROGRAM SHIM FOLDER: the program by the time of day, on a real disk.
+"""real_time.py PROGRAM SHIM FOLDER MEMORY: the program by the time of day, on a real disk. If the disk takes so long to sync that a tick of 0.1 s cannot be
+kept, the pacing is tried in MEMORY, a folder that is none of it.
 
 Pacing: a tick passes every 0.1 s, so the clock is within one tick of the time passed, at three moments in three seconds: on the disk as it is; on a disk
 that takes 40 ms for each tick, which would show if a tick began when the work of the last had ended; and with the program stopped for half a second, after
@@ -40,6 +41,21 @@ class Live:
     def end(self):
         self.process.stdin.close()
         check(self.process.wait(timeout=10) == 0, "ended with", self.process.returncode)
+
+
+def sync_takes(folder):
+    """Milliseconds, at most, in which eight of ten writes of an image are synced there."""
+    os.makedirs(folder, exist_ok=True)
+    times = []
+    for _ in range(10):
+        began = time.monotonic()
+        with open(os.path.join(folder, "tried"), "wb") as file:
+            file.write(bytes(2128))
+            file.flush()
+            os.fsync(file.fileno())
+        times.append((time.monotonic() - began) * 1000)
+    os.remove(os.path.join(folder, "tried"))
+    return sorted(times)[7]
 
 
 def pacing(folder, program, shim):
@@ -103,8 +119,11 @@ def kills(runner, rng):
     print(f"seed {SEED}: {KILLS} kills in real time, clock {image.clock}, {tickets} tickets told as accepted, {restored} live orders found again")
 
 
-def main(program, shim, folder):
-    pacing(folder, program, shim)
+def main(program, shim, folder, memory):
+    # Two syncs a tick, of three programs at a time, one of them slowed by 40 ms.
+    takes = sync_takes(folder)
+    print(f"a sync takes {takes:.1f} ms here" + ("" if takes < 10 else ": too long for a tick, so the pacing is tried in memory"))
+    pacing(folder if takes < 10 else os.path.join(memory, "pacing"), program, shim)
     kills(Runner(program, shim, os.path.join(folder, "kills")), random.Random(SEED))
 
 
