@@ -1,12 +1,16 @@
 """README.md's blocks of indented lines, each tried: blocks.py README. A block is a list of commands, an input or an output. Commands are run as they stand,
 but for four: `tests/run` is what runs this; the long comparison, the fuzzer and the benchmark are run in a short form. An output has to be what the command
-before it writes. The blocks and their order are those of the list below: a block that it does not have, or one that is gone, is an error."""
+before it writes. The blocks and their order are those of the list below: a block that it does not have, or one that is gone, is an error.
+
+rt and the firmware example are run in a tree of links, whose target/ begins with the libraries and programs that rt has proved: other tests may use target/
+meanwhile."""
 import os
 import re
 import subprocess
 import sys
 
 ROOM = "target/readme"
+TREE = ROOM + "/tree"
 
 
 def blocks(page):
@@ -57,45 +61,45 @@ def main():
         sys.exit(f"README.md has {len(given)} blocks of indented lines, and this test knows 12: it has to know each")
     two, cabinet, requests, told, plan, table, figures, inspect, said, programs, tried, bench = given
 
+    os.makedirs(f"{TREE}/target")
+    for name in ["crates", "crates.txt", "include", "firmware", "target/rlib", "target/stamp", "target/obj", "target/bin"]:
+        os.symlink(os.path.abspath(name), f"{TREE}/{name}")
+
     expect(two, "rt staticlib dispatcher", "tests/run")
-    run("rt staticlib dispatcher")
+    run("rt staticlib dispatcher", folder=TREE)
     if not os.access("tests/run", os.X_OK):
         sys.exit("tests/run cannot be run")
 
-    # In a folder of links, since the example leaves files where it is run.
-    for name in ["include", "firmware"]:
-        os.symlink(os.path.abspath(name), f"{ROOM}/{name}")
-    os.makedirs(f"{ROOM}/target/staticlib")
-    os.symlink(os.path.abspath("target/staticlib/libdispatcher.a"), f"{ROOM}/target/staticlib/libdispatcher.a")
     build, start = commands(cabinet)
-    run(build, folder=ROOM)
-    run(start, "status\n", folder=ROOM)
-    os.remove(f"{ROOM}/cabinet.image")
-    same(start, told, run(start + " --tick 0", requests, folder=ROOM))
+    run(build, folder=TREE)
+    run(start, "status\n", folder=TREE)
+    os.remove(f"{TREE}/cabinet.image")
+    same(start, told, run(start + " --tick 0", requests, folder=TREE))
 
     expect(plan, "rt check plan", "target/bin/plan < TABLE")
-    run("rt check plan")
-    open(f"{ROOM}/table", "w").write(table)
-    call = f"target/bin/plan < {ROOM}/table"
-    same(call, figures, run(call))
+    run("rt check plan", folder=TREE)
+    open(f"{TREE}/TABLE", "w").write(table)
+    call = "target/bin/plan < TABLE"
+    same(call, figures, run(call, folder=TREE))
     # "With deadline 7 in place of 8 the last line is `2 4 7 late`"
     shown = re.search(r"With deadline 7 in place of 8 the last\s+line is `([^`]*)`", page).group(1)
-    open(f"{ROOM}/table", "w").write(table.replace("\n8 8 ", "\n8 7 "))
-    if run(call).splitlines()[-1] != shown:
+    open(f"{TREE}/TABLE", "w").write(table.replace("\n8 8 ", "\n8 7 "))
+    if run(call, folder=TREE).splitlines()[-1] != shown:
         sys.exit(f"with deadline 7 plan does not print '{shown}'")
 
     expect(inspect, "rt check inspect", "target/bin/inspect < IMAGE")
-    run("rt check inspect")
-    call = "target/bin/inspect < crates/inspect/stdin"
-    same(call, said, run(call))
+    run("rt check inspect", folder=TREE)
+    os.symlink("crates/inspect/stdin", f"{TREE}/IMAGE")
+    call = "target/bin/inspect < IMAGE"
+    same(call, said, run(call, folder=TREE))
 
     expect(programs, "rt check cases soak")
-    run("rt check cases soak")
+    run("rt check cases soak", folder=TREE)
 
     expect(tried, "tests/compare/run", "tests/fuzz/run")
-    if "status 1" in run("tests/compare/run --calls 20000 --seed 1"):
-        sys.exit("tests/compare/run says that it failed")
-    run("tests/fuzz/run --replay tests/fuzz/seeds/*")
+    run(f"tests/compare/run --calls 20000 --seed 1 --folder {ROOM}/found")
+    # Another folder than that of the other tests, which another archive has.
+    run("FUZZ_LIBRARY=target/staticlib/libdispatcher.a tests/fuzz/run --replay tests/fuzz/seeds/*")
 
     expect(bench, "bench/run")
     run("bench/run --compare")

@@ -43,7 +43,7 @@ fn put_joined(image: &mut [u8], b: Block, live: usize)
     ensures { λ _. ⌜ length (concat (map orderBytes (map (joinedBy b) (ordersOf (now (image .entry)) live)))) ≡ recordSize * live ⌝ }
 {
     let costs = b.costs;
-    let top = row_soundness::largest(costs);
+    let top = row_figures::largest(costs);
     let mut i: usize = 0;
     while i < live {
         let o = order_at(image, i);

@@ -28,8 +28,8 @@ use little_endian_reader::u32_at;
 use model::Service;
 use model::limits::LAST_TICK;
 use questions::Answer;
-use station_entries::vacate::ticket_out;
-use station_entries::vacate::vacate_all;
+use station_exits::ticket_out;
+use station_exits::vacate_all;
 
 // Writes what changes of the image: the records if an order leaves a station, the header and the station entries. Neither the
 // clock left as it was nor a station entry that keeps an order that has left meets the promise.

@@ -7,7 +7,7 @@ use image::Pipeline;
 use image::wide;
 use model::Service;
 use starting::started;
-use station_entries::tick::tick_all;
+use station_entries::tick_all;
 
 // "Advance does this, in order": the station entries once each idle station has started an order and each order in service has
 // one tick less to go. Those with nothing to go are about to leave. Neither a tick without starts nor an order that starts and

@@ -6,7 +6,7 @@ ghost use Rattle.model.specs.Lists as lists;
 ghost use Rattle.model.specs.Admission.{joinedBy};
 use model::Block;
 use model::Order;
-use row_soundness::larger;
+use row_figures::larger;
 
 // The larger of two rows' entries, place by place. Neither 0 at the eighth place nor the smaller entries meet the promise.
 pub fn larger_row(a: [u16; 8], b: [u16; 8]) -> [u16; 8]

@@ -80,7 +80,7 @@ pub fn try_all(l: Limits, b: Block, orders: [Order; 32], live: usize) -> Tried
     ensures { λ r. ⌜ Tries (l .n) b (take live orders) r ⌝ }
 {
     let costs = b.costs;
-    let top = row_soundness::largest(costs);
+    let top = row_figures::largest(costs);
     let mut sum = top;
     let mut maxima = costs;
     let mut least = LARGEST_MARGIN;
@@ -93,7 +93,7 @@ pub fn try_all(l: Limits, b: Block, orders: [Order; 32], live: usize) -> Tried
             return gathered(sum, maxima, least);
         }
         let own = o.costs;
-        sum = row_soundness::largest(own) + sum;
+        sum = row_figures::largest(own) + sum;
         let more = larger_row(own, maxima);
         maxima = more;
         least = smaller(least, margin(l, joined_by(b, top, o)));

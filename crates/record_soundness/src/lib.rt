@@ -48,7 +48,7 @@ fn sum_in_range(o: Order) -> bool
     ensures { λ r. ⌜ r ≡ sumInRange o ⌝ }
 {
     let costs = o.costs;
-    row_soundness::largest(costs) <= o.sum
+    row_figures::largest(costs) <= o.sum
 }
 
 // "the order on time": acceptance tick, stored sum and the sum of the maxima are added up in 64 bits, since in 32 they can
@@ -57,7 +57,7 @@ fn on_time(n: u32, o: Order) -> bool
     ensures { λ r. ⌜ r ≡ onTime n o ⌝ }
 {
     let maxima = o.maxima;
-    wide(o.accepted) + (wide(o.sum) + wide(row_soundness::before_last(n, maxima))) <= wide(o.due)
+    wide(o.accepted) + (wide(o.sum) + wide(row_figures::before_last(n, maxima))) <= wide(o.due)
 }
 
 // "fields beyond N zero", of a record.

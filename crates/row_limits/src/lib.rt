@@ -7,7 +7,7 @@ ghost use Rattle.model.specs.Limits.{maxStations};
 ghost use Rattle.model.specs.Lists.{total};
 ghost use Rattle.row_limits.specs.Limits.{firstPlaces, limitsOf, Made};
 use model::limits::MAX_COST;
-use row_soundness::wide;
+use row_figures::wide;
 
 // For a pipeline of n stations.
 pub struct Limits {
