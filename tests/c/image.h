@@ -17,6 +17,14 @@ static inline void put_row(uint8_t *at, const uint16_t *row)
         put2(at + 2 * j, row[j]);
 }
 
+/* An order block of 28 bytes. */
+static inline void put_block(uint8_t *at, uint32_t due_in, const uint8_t *ranks, const uint16_t *costs)
+{
+    put4(at, due_in);
+    memcpy(at + 4, ranks, 8);
+    put_row(at + 12, costs);
+}
+
 /* An image with nothing live and all stations idle. The reply gets its right length, too. */
 static inline void empty_image(uint8_t n, uint32_t clock, uint32_t next)
 {

@@ -19,9 +19,7 @@ static void block(uint32_t due_in, const uint8_t *ranks, const uint16_t *costs)
 {
     memset(order, 0, sizeof order);
     order_length = 28;
-    put4(order, due_in);
-    memcpy(order + 4, ranks, 8);
-    put_row(order + 12, costs);
+    put_block(order, due_in, ranks, costs);
 }
 
 /* ---- calls ---- */

@@ -3,7 +3,7 @@ use mathlib.Core.Path.{_≡_, refl, sym, ap, subst, _∙_}
 use mathlib.Core.List.{List, [], _∷_, _++_, map, append-assoc, map-append}
 use Prim.Native.Nat.{ℕ, _+_, _-_, _*_, _≤_, _<_}
 use native.Mathlib.Omega.{arith}
-use lib.ListN.{length, getD, take, drop, replicate, length-append, length-replicate, length-map, replicate-append-replicate}
+use lib.ListN.{length, getD, replicate, length-append, length-replicate, length-map, replicate-append-replicate}
 use Rattle.model.specs.declared.Block.{Block}
 use Rattle.model.specs.declared.Order.{Order}
 use Rattle.model.specs.Limits.{maxLive}
@@ -14,12 +14,13 @@ use Rattle.model.specs.Layout.{mark, version, recordPart}
 use Rattle.model.specs.Image.{liveCount, orderOf, orderBytes, ordersOf, decode, encode}
 use Rattle.model.specs.Admission.{arrival, joinedBy, joinedLive, accept}
 use Rattle.lists.specs.Stored.{Stored}
-use Rattle.lists.proofs.Stores.{stored-then, stored-past}
-use Rattle.lists.proofs.Fills.{Rows, concat-append, concat-one, length-upward, getD-upward, past}
+use Rattle.lists.proofs.Stores.{stored-then, stored-part}
+use Rattle.lists.proofs.Fills.{Rows, concat-append, concat-one, getD-upward, past}
 use Rattle.lists.proofs.Tests.{upward-map}
 use Rattle.schedule.specs.Valid.{_∈_}
 use Rattle.roundtrip.specs.InRange.{byteLimit, Below, InRange}
 use Rattle.roundtrip.proofs.Rows.{getD-in}
+use Rattle.roundtrip.proofs.Read.{decode-live}
 use Rattle.roundtrip.proofs.Written.{header, entries, after-header}
 use Rattle.roundtrip.proofs.Overwritten.{rear, rear-length, header-over, records-over}
 use Rattle.roundtrip.proofs.Sound.{encode-decode, sound-gives}
@@ -37,15 +38,11 @@ joined-rows b f n = sym (ap (map orderBytes) (upward-map (joinedBy b) 0 n f) ∙
 
 -- While the first i records are written the one after them is as it was.
 pub still : {f : ℕ → List ℕ} {l m : List ℕ} {i : ℕ} → Rows f 64 l 80 i m → 80 + 64 * i ≤ length l → recordPart m i ≡ recordPart l i
-still {f} {l} {m} {i} r h =
-    let e : 80 + length (concat (upward 0 i f)) ≡ 80 + 64 * i = ap (λ (k : ℕ). 80 + k) (r .long) in
-    let past : drop (80 + 64 * i) m ≡ drop (80 + 64 * i) l = rw e at (stored-past (r .stored) (omega (arith, r .long))) in
-    ap (take 64) past
+still {i = i} r h = stored-part (r .stored) (omega (arith, r .long)) (80 + 64 * i) 64 (omega (arith, r .long))
 
 module _ {image : List ℕ} {b : Block} {a : Order} (ok : Acceptable image b a) (bytes : Below byteLimit image) where
   live : length (decode image .orders) ≡ liveCount image
-  unfolding decode
-  live = length-upward 0 (liveCount image) (λ i. orderOf (recordPart image i))
+  live = decode-live image
 
   figures : InRange (decode image)
   figures = sound-gives image bytes (ok .is-sound) .in-range

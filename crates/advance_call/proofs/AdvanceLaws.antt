@@ -20,6 +20,7 @@ use Rattle.image.specs.Pipeline.{listed}
 use Rattle.roundtrip.specs.SoundFacts.{SoundInRange}
 use Rattle.roundtrip.specs.Usable.{Usable}
 use Rattle.lists.proofs.Questions.{gives-other, decides, passed}
+use Rattle.roundtrip.proofs.Read.{decode-clock}
 use Rattle.roundtrip.proofs.Questions.{four-say}
 use Rattle.advances.proofs.Exact.{advance-numbers}
 use Rattle.call_results.specs.Gives.{Gives}
@@ -47,8 +48,7 @@ module _ (image reply : List ℕ) where
   -- The clock of the image decides.
   module _ (u : Usable image reply) (clock : ℕ) (is : clock ≡ word image clockAt) where
     clock-is : clock ≡ decode image .clock
-    unfolding decode
-    clock-is = is
+    clock-is = is ∙ decode-clock image
 
     pub ended : SoundInRange (decode image) → lastTick ≤ clock → (number : ℕ) → number ≡ 13 → Gives (advanceCall image reply) number image (declinedReply number reply)
     ended ok last number is =

@@ -72,15 +72,15 @@ module _ {p : Pipeline} (ok : SoundPipeline p) where
         long = rows-long ∙ ap (λ (k : ℕ). recordSize * k) (sym count);
       })
 
-  module _ {services : List Service} {kept : ℕ} {a : List ℕ} (came : Left (p .n) services (ordersOf (encode (listed p)) (p .live)) (p .live) (encode (listed p)) kept a) where
-    left : Left (p .n) services live (p .live) (encode (listed p)) kept a
+  module _ {services : List Service} {kept : ℕ} {a : List ℕ} (came : Left (p .n) services (ordersOf (encode (listed p)) (p .live)) (encode (listed p)) kept a) where
+    left : Left (p .n) services live (encode (listed p)) kept a
     left = rw same-orders at came
 
     abbrev rest : List Order
     rest = remaining (p .n) services live
 
     abbrev freed : List ℕ
-    freed = replicate (recordSize * (p .live - kept)) 0
+    freed = replicate (recordSize * (length live - kept)) 0
 
     -- The state after the tick.
     abbrev after : State
@@ -92,15 +92,15 @@ module _ {p : Pipeline} (ok : SoundPipeline p) where
 
     records-after : rows rest ++ freed ++ zeros ≡ rear after
     records-after =
-        let sum : recordSize * (p .live - kept) + recordSize * (maxLive - length live) ≡ recordSize * (maxLive - length rest) =
+        let sum : recordSize * (length live - kept) + recordSize * (maxLive - length live) ≡ recordSize * (maxLive - length rest) =
         omega (arith, left .few, left .count, count, few ok) in
         append-assoc (rows rest) freed zeros
         ∙ ap (λ (z : List ℕ). rows rest ++ z)
-        (replicate-append-replicate {A = ℕ} (recordSize * (p .live - kept)) (recordSize * (maxLive - length live)) 0 ∙ ap (λ (k : ℕ). replicate k 0) sum)
+        (replicate-append-replicate {A = ℕ} (recordSize * (length live - kept)) (recordSize * (maxLive - length live)) 0 ∙ ap (λ (k : ℕ). replicate k 0) sum)
 
     as-long : length (rows live) ≡ length (rows rest ++ freed)
     as-long =
-        omega (arith, rows-long, length-append (rows rest) freed, left .long, left .few, length-replicate {A = ℕ} (recordSize * (p .live - kept)) 0)
+        omega (arith, rows-long, count, length-append (rows rest) freed, left .long, left .few, length-replicate {A = ℕ} (recordSize * (length live - kept)) 0)
 
     pub written : {b c : List ℕ} → services ≡ tick (starts (listed p)) .services → Stored a 0 (mark ++ twoBytes version ++ (p .n ∷ kept ∷ 0 ∷ []) ++ fourBytes (p .clock + 1) ++ fourBytes (p .next)) b → Stored b 16 (concat (map serviceBytes (map vacate services))) c → length (concat (map serviceBytes (map vacate services))) ≡ 64 → c ≡ encode (advance (listed p))
     written {b} {c} s h e sixty-four =

@@ -2,13 +2,14 @@
 use mathlib.Core.Path.{_≡_, refl, ap, _∙_}
 use mathlib.Core.Logic.{_⊎_, inl, inr}
 use mathlib.Core.Bool.{Bool, true, false}
-use mathlib.Core.List.{List, [], _∷_, _++_, map, append-nil, List·Memᴰ·head, List·Memᴰ·tail, Memᴰ·of-map}
+use mathlib.Core.List.{List, [], _∷_, _++_, map, map-append, append-nil, List·Memᴰ·head, List·Memᴰ·tail, Memᴰ·of-map}
 use Prim.Native.Nat.{ℕ, _<_}
 use native.Mathlib.Omega.{arith}
 use borrow.Author.Tests.{eq-eqb, ne-eqb}
 use Rattle.model.specs.Lists.{any, has, only}
 use Rattle.model.specs.declared.Block.{Block}
 use Rattle.model.specs.History.{Entry}
+use Rattle.lists.proofs.Tests.{only-append}
 use Rattle.schedule.specs.Valid.{_∈_, RisingBy}
 use Rattle.schedule.proofs.Laws.{test, only-yes, only-no, only-in}
 
@@ -31,19 +32,6 @@ only-alike : {A : Type 0} (p q : A → Bool) (l : List A) → ((a : A) → a ∈
 unfolding only
 only-alike p q [] h = refl
 only-alike {A} p q (x ∷ xs) h = rw (h x (List·Memᴰ·head refl), only-alike p q xs (λ a m. h a (List·Memᴰ·tail m)))
-
-only-append : {A : Type 0} (p : A → Bool) (l r : List A) → only p (l ++ r) ≡ only p l ++ only p r
-unfolding only
-only-append p [] r = refl
-only-append {A} p (x ∷ xs) r = go (only-append p xs r) (test (p x))
-  where
-    go : only p (xs ++ r) ≡ only p xs ++ only p r → (p x ≡ true) ⊎ (p x ≡ false) → only p ((x ∷ xs) ++ r) ≡ only p (x ∷ xs) ++ only p r
-    go ih (inl e) = rw e (ap {B = List A} (λ l. x ∷ l) ih)
-    go ih (inr e) = rw e ih
-
-map-append : {A B : Type 0} (f : A → B) (l r : List A) → map f (l ++ r) ≡ map f l ++ map f r
-map-append f [] r = refl
-map-append {B = B} f (x ∷ xs) r = ap {B = List B} (λ l. f x ∷ l) (map-append f xs r)
 
 -- ---- the costs of those entries whose tickets are in a list
 abbrev pub costsOf : Entry → List ℕ

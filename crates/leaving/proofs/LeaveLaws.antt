@@ -5,8 +5,8 @@ use mathlib.Core.List.{List, [], _∷_, _++_, map, map-append, append-nil, List�
 use Prim.Native.Nat.{ℕ, zero, suc, _+_, _-_, _*_, _≤_, _<_}
 use native.Mathlib.Numerals.{add-one}
 use native.Mathlib.Omega.{arith}
-use lib.ListN.{length, length-append, length-replicate, getD, take, drop, replicate, replicate-append-replicate}
-use lib.Seq.{take-suc, take-all, drop-drop}
+use lib.ListN.{length, length-append, length-replicate, getD, take, replicate, replicate-append-replicate}
+use lib.Seq.{take-suc, take-all, length-take-le}
 use lib.Dec.{leb, eqb}
 use borrow.Author.Tests.{le-leb, eqb-true, ne-eqb}
 use Rattle.model.specs.declared.Order.{Order}
@@ -18,8 +18,8 @@ use Rattle.model.specs.Layout.{imageSize, recordsAt, recordSize, recordPart}
 use Rattle.model.specs.Image.{orderOf, orderBytes, ordersOf}
 use Rattle.model.specs.Tick.{view, stationAfter, moveTo}
 use Rattle.lists.specs.Stored.{Stored}
-use Rattle.lists.proofs.Stores.{stored-none, stored-then, stored-past}
-use Rattle.lists.proofs.Tests.{either, both-false}
+use Rattle.lists.proofs.Stores.{stored-none, stored-then, stored-part}
+use Rattle.lists.proofs.Tests.{either, both-false, only-append}
 use Rattle.lists.proofs.Fills.{past, length-upward, getD-upward, concat-append, concat-one}
 use Rattle.schedule.specs.Valid.{_∈_}
 use Rattle.schedule.specs.Pass.{moved}
@@ -36,21 +36,13 @@ moved-by services o h = rw (at-place idle services (o .station) h)
 
 -- One entry more behind a list of which some are kept.
 module _ {A : Type 0} (test : A → Bool) where
-  only-append : (l m : List A) → only test (l ++ m) ≡ only test l ++ only test m
-  unfolding only
-  only-append [] m = refl
-  only-append (x ∷ l) m =
-      either (λ b. cond b (x ∷ only test (l ++ m)) (only test (l ++ m)) ≡ cond b (x ∷ only test l) (only test l) ++ only test m) (test x)
-      (λ e. ap (λ t. x ∷ t) (only-append l m))
-      (λ e. only-append l m)
-
   only-kept : (l : List A) (x : A) → test x ≡ true → only test (l ++ (x ∷ [])) ≡ only test l ++ (x ∷ [])
   unfolding only
-  only-kept l x e = rw (only-append l (x ∷ []), e)
+  only-kept l x e = rw (only-append test l (x ∷ []), e)
 
   only-dropped : (l : List A) (x : A) → test x ≡ false → only test (l ++ (x ∷ [])) ≡ only test l
   unfolding only
-  only-dropped l x e = rw (only-append l (x ∷ []), e) (append-nil (only test l))
+  only-dropped l x e = rw (only-append test l (x ∷ []), e) (append-nil (only test l))
 
 -- No order leaves a station: the records are as they were.
 none-at : (services : List Service) (i : ℕ) → any finishes services ≡ false → finishes (getD services i idle) ≡ false
@@ -83,26 +75,23 @@ module _ (services : List Service) (quiet : any finishes services ≡ false) whe
 
 module _ {n : ℕ} (services : List Service) {orders : List Order} (held : Held n orders) where
   -- Nothing yet.
-  pub none-yet : (l : List ℕ) → Moved n services orders 0 l 0 l
+  pub none-yet : (l : List ℕ) → Moved n services (take 0 orders) l 0 l
   unfolding remaining only concat
   none-yet l = record { few = omega arith; count = refl; stored = stored-none l recordsAt; long = refl }
 
-  module _ {i kept : ℕ} {l mid : List ℕ} (so-far : Moved n services orders i l kept mid) (more : i < length orders) where
+  -- After the first i orders.
+  module _ {i kept : ℕ} {l mid : List ℕ} (so-far : Moved n services (take i orders) l kept mid) (more : i < length orders) where
+    few : kept ≤ i
+    few = omega (arith, so-far .few, length-take-le i orders (omega arith))
+
     next-placed : Placed (getD orders i past)
     next-placed = held .placed (getD orders i past) (getD-in orders past i more)
 
     -- The record at place i is still as it was.
     pub next-record : length l ≡ imageSize → recordPart mid i ≡ recordPart l i
     next-record whole =
-        let v = rows (remaining n services (take i orders)) in
-        let same : drop (recordsAt + length v) mid ≡ drop (recordsAt + length v) l = stored-past (so-far .stored) (omega (arith, so-far .long, so-far .few, more, held .room, whole)) in
-        let on : recordsAt + length v + recordSize * (i - kept) ≡ recordsAt + recordSize * i = omega (arith, so-far .long, so-far .few) in
-        ap (take recordSize)
-        (ap (λ (k : ℕ). drop k mid) (sym on)
-        ∙ sym (drop-drop (recordSize * (i - kept)) (recordsAt + length v) mid)
-        ∙ ap (drop (recordSize * (i - kept))) same
-        ∙ drop-drop (recordSize * (i - kept)) (recordsAt + length v) l
-        ∙ ap (λ (k : ℕ). drop k l) on)
+        let long = so-far .long in
+        stored-part (so-far .stored) (omega (arith, long, few, more, held .room, whole)) (recordsAt + recordSize * i) recordSize (omega (arith, long, few))
 
     -- One order more: the next record, moved.
     module _ {o m : Order} (read : o ≡ getD orders i past) (is : m ≡ movedBy (getD services (o .station - 1) idle) o) where
@@ -118,22 +107,22 @@ module _ {n : ℕ} (services : List Service) {orders : List Order} (held : Held 
       unfolding remaining
       goes e = rw one-more (only-dropped (λ o. leb (o .station) n) (map (moved services) (take i orders)) m e)
 
-      pub one-out : leb (m .station) n ≡ false → Moved n services orders (i + 1) l kept mid
+      pub one-out : leb (m .station) n ≡ false → Moved n services (take (i + 1) orders) l kept mid
       one-out e =
           record {
-            few = omega (arith, so-far .few);
+            few = omega (arith, few, length-take-le (i + 1) orders (omega arith));
             count = rw (goes e) (so-far .count);
             stored = rw (goes e) (so-far .stored);
             long = rw (goes e) (so-far .long);
           }
 
-      pub one-stays : leb (m .station) n ≡ true → {t : List ℕ} → Stored mid (recordsAt + recordSize * kept) (orderBytes m) t → length (orderBytes m) ≡ recordSize → Moved n services orders (i + 1) l (kept + 1) t
+      pub one-stays : leb (m .station) n ≡ true → {t : List ℕ} → Stored mid (recordsAt + recordSize * kept) (orderBytes m) t → length (orderBytes m) ≡ recordSize → Moved n services (take (i + 1) orders) l (kept + 1) t
       one-stays e w h =
           let rest = remaining n services (take i orders) in
           let more-rows : rows (rest ++ (m ∷ [])) ≡ rows rest ++ orderBytes m =
           rw (map-append orderBytes rest (m ∷ []), concat-append (map orderBytes rest) (orderBytes m ∷ []), concat-one (orderBytes m)) in
           record {
-            few = omega (arith, so-far .few);
+            few = omega (arith, few, length-take-le (i + 1) orders (omega arith));
             count = rw (stays e, length-append rest (m ∷ []), ← so-far .count);
             stored = rw (stays e, more-rows) (stored-then (so-far .stored) (rw (so-far .long)) w);
             long = rw (stays e, more-rows, length-append (rows rest) (orderBytes m), so-far .long, h) (omega arith);
@@ -141,18 +130,22 @@ module _ {n : ℕ} (services : List Service) {orders : List Order} (held : Held 
 
 -- The live orders of an image.
 module _ (l : List ℕ) (live : ℕ) where
-  count-is : length (ordersOf l live) ≡ live
+  pub count-is : length (ordersOf l live) ≡ live
   count-is = length-upward 0 live (λ k. orderOf (recordPart l k))
 
   module _ {n : ℕ} (held : Held n (ordersOf l live)) where
     pub room-for : live ≤ maxLive
     room-for = omega (arith, count-is, held .room)
 
+    -- No more are kept than were looked at, and in the end all were.
+    pub few-of : {services : List Service} {i kept : ℕ} {mid : List ℕ} → i ≤ live → Moved n services (take i (ordersOf l live)) l kept mid → kept ≤ i
+    few-of {i = i} h m = omega (arith, m .few, length-take-le i (ordersOf l live) (omega (arith, count-is)))
+
     pub below : (i : ℕ) → i < live → i < length (ordersOf l live)
     below i h = omega (arith, count-is)
 
     -- The order that is read at place i is the next of them, at one of the stations.
-    module _ {services : List Service} (whole : length l ≡ imageSize) {i kept : ℕ} {mid : List ℕ} (so-far : Moved n services (ordersOf l live) i l kept mid) (more : i < live) {o : Order} (is : o ≡ orderOf (recordPart mid i)) where
+    module _ {services : List Service} (whole : length l ≡ imageSize) {i kept : ℕ} {mid : List ℕ} (so-far : Moved n services (take i (ordersOf l live)) l kept mid) (more : i < live) {o : Order} (is : o ≡ orderOf (recordPart mid i)) where
       pub next-read : o ≡ getD (ordersOf l live) i past
       next-read = is ∙ ap orderOf (next-record services held so-far (below i more) whole) ∙ sym (getD-upward live (λ k. orderOf (recordPart l k)) i past more)
 
@@ -170,19 +163,23 @@ unused-more kept j h w e s =
 
 -- All live orders have moved, and the records that are then free are zero; or no order leaves a station, and the records stay as they are.
 module _ (l : List ℕ) (live : ℕ) {n : ℕ} {services : List Service} where
-  pub left : {kept : ℕ} {mid t : List ℕ} → Moved n services (ordersOf l live) live l kept mid → Stored mid (recordsAt + recordSize * kept) (replicate (recordSize * (live - kept)) 0) t → Left n services (ordersOf l live) live l kept t
-  left m w =
-      let all-of-them : take live (ordersOf l live) ≡ ordersOf l live = take-all live (ordersOf l live) (omega (arith, count-is l live)) in
-      let long = rw all-of-them at (m .long) in
-      record { few = m .few; count = rw all-of-them at (m .count); stored = stored-then (rw all-of-them at (m .stored)) (rw long) w; long = long }
+  pub all-moved : {kept : ℕ} {mid : List ℕ} → Moved n services (take live (ordersOf l live)) l kept mid → Moved n services (ordersOf l live) l kept mid
+  all-moved m = rw (take-all live (ordersOf l live) (omega (arith, count-is l live))) at m
 
-  pub none-leaves : Held n (ordersOf l live) → any finishes services ≡ false → Holds l (ordersOf l live) → Left n services (ordersOf l live) live l live l
+  pub kept-few : {kept : ℕ} {mid : List ℕ} → Moved n services (ordersOf l live) l kept mid → kept ≤ live
+  kept-few m = omega (arith, m .few, count-is l live)
+
+  pub left : {kept : ℕ} {mid t : List ℕ} → Moved n services (ordersOf l live) l kept mid → Stored mid (recordsAt + recordSize * kept) (replicate (recordSize * (live - kept)) 0) t → Left n services (ordersOf l live) l kept t
+  left m w =
+      record { few = m .few; count = m .count; stored = rw (count-is l live) (stored-then (m .stored) (rw (m .long)) w); long = m .long }
+
+  pub none-leaves : Held n (ordersOf l live) → any finishes services ≡ false → Holds l (ordersOf l live) → Left n services (ordersOf l live) l live l
   none-leaves held quiet holds =
       let orders = ordersOf l live in
       let all-there = all-stay services quiet n orders (λ o m. (held .placed o m, held .high o m)) in
-      let none : recordSize * (live - live) ≡ 0 = omega arith in
+      let none : recordSize * (length orders - live) ≡ 0 = omega (arith, count-is l live) in
       record {
-        few = omega arith;
+        few = omega (arith, count-is l live);
         count = rw all-there (sym (count-is l live));
         stored = rw (all-there, none, append-nil (rows orders)) (holds .there);
         long = rw all-there (rw (count-is l live) at (holds .long));

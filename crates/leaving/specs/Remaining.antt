@@ -4,7 +4,7 @@ use mathlib.Core.Path.{_≡_}
 use mathlib.Core.Bool.{Bool, not, cond, _&&_}
 use mathlib.Core.List.{List, _++_, map}
 use Prim.Native.Nat.{ℕ, _+_, _-_, _*_, _≤_}
-use lib.ListN.{length, take, replicate}
+use lib.ListN.{length, replicate}
 use lib.Dec.{leb, eqb}
 use Rattle.model.specs.declared.Order.{Order}
 use Rattle.model.specs.declared.Service.{Service}
@@ -44,16 +44,16 @@ pub record Holds (image : List ℕ) (orders : List Order) : Type 0 where
   pub there : Stored image recordsAt (rows orders) image
   pub long : length (rows orders) ≡ recordSize * length orders
 
--- Of the first i orders `kept` remain, and image m is image l with their records from the first on.
-pub record Moved (n : ℕ) (services : List Service) (orders : List Order) (i : ℕ) (l : List ℕ) (kept : ℕ) (m : List ℕ) : Type 0 where
-  pub few : kept ≤ i
-  pub count : kept ≡ length (remaining n services (take i orders))
-  pub stored : Stored l recordsAt (rows (remaining n services (take i orders))) m
-  pub long : length (rows (remaining n services (take i orders))) ≡ recordSize * kept
-
--- The same of all of them, `live` in number, and the records that are then free are zero.
-pub record Left (n : ℕ) (services : List Service) (orders : List Order) (live : ℕ) (l : List ℕ) (kept : ℕ) (m : List ℕ) : Type 0 where
-  pub few : kept ≤ live
+-- `kept` of the orders remain, and image m is image l with their records from the first on.
+pub record Moved (n : ℕ) (services : List Service) (orders : List Order) (l : List ℕ) (kept : ℕ) (m : List ℕ) : Type 0 where
+  pub few : kept ≤ length orders
   pub count : kept ≡ length (remaining n services orders)
-  pub stored : Stored l recordsAt (rows (remaining n services orders) ++ replicate (recordSize * (live - kept)) 0) m
+  pub stored : Stored l recordsAt (rows (remaining n services orders)) m
+  pub long : length (rows (remaining n services orders)) ≡ recordSize * kept
+
+-- The same, and the records that are then free are zero.
+pub record Left (n : ℕ) (services : List Service) (orders : List Order) (l : List ℕ) (kept : ℕ) (m : List ℕ) : Type 0 where
+  pub few : kept ≤ length orders
+  pub count : kept ≡ length (remaining n services orders)
+  pub stored : Stored l recordsAt (rows (remaining n services orders) ++ replicate (recordSize * (length orders - kept)) 0) m
   pub long : length (rows (remaining n services orders)) ≡ recordSize * kept

@@ -59,7 +59,7 @@ fn any_leaves(services: [Service; 8]) -> bool
 // one that is out kept meets the promise.
 fn put_remaining(image: &mut [u8], n: u32, services: [Service; 8], live: usize) -> usize
     requires { ⌜ (length (now image) ≡ imageSize) × Held n (ordersOf (now image) live) ⌝ }
-    ensures { λ r. ⌜ Moved n services (ordersOf (now (image .entry)) live) live (now (image .entry)) r (now (image .exit)) ⌝ }
+    ensures { λ r. ⌜ Moved n services (ordersOf (now (image .entry)) live) (now (image .entry)) r (now (image .exit)) ⌝ }
 {
     let mut kept: usize = 0;
     let mut i: usize = 0;
@@ -93,7 +93,7 @@ fn put_unused(image: &mut [u8], kept: usize, live: usize)
 // promise.
 pub fn leave(image: &mut [u8], n: u32, services: [Service; 8], live: usize) -> usize
     requires { ⌜ (length (now image) ≡ imageSize) × Held n (ordersOf (now image) live) × Holds (now image) (ordersOf (now image) live) ⌝ }
-    ensures { λ r. ⌜ Left n services (ordersOf (now (image .entry)) live) live (now (image .entry)) r (now (image .exit)) ⌝ }
+    ensures { λ r. ⌜ Left n services (ordersOf (now (image .entry)) live) (now (image .entry)) r (now (image .exit)) ⌝ }
 {
     if any_leaves(services) {
         let kept = put_remaining(image, n, services, live);

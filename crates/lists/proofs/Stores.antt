@@ -1,12 +1,13 @@
 -- Stores one after the other make one store of both, so that a writer that calls writers is proved by one line a call.
 use mathlib.Core.Path.{_≡_, refl, sym, ap, _∙_}
 use mathlib.Core.List.{List, [], _∷_, _++_, append-nil, append-assoc}
-use Prim.Native.Nat.{ℕ, suc, _+_, _≤_, _<_}
+use Prim.Native.Nat.{ℕ, suc, _+_, _-_, _≤_, _<_}
 use native.Mathlib.Nat.{add-zero}
 use native.Mathlib.Numerals.{add-one}
 use native.Mathlib.Omega.{arith}
 use lib.ListN.{length, getD, set, take, drop, replicate, length-append, length-replicate, drop-of-length-le, replicate-append-replicate}
-use lib.Seq.{sets, sets-eq, length-sets, take-suc, take-all, take-at, drop-at, length-take-le}
+use lib.Seq.{sets, sets-eq, length-sets, take-suc, take-all, take-at, drop-at, drop-drop, length-take-le}
+use Rattle.model.specs.Lists.{part}
 use Rattle.lists.specs.Stored.{Stored, Put}
 
 sets-append : (l vs ws : List ℕ) (i : ℕ) → sets (sets l i vs) (i + length vs) ws ≡ sets l i (vs ++ ws)
@@ -60,6 +61,18 @@ pub stored-past : {l v m : List ℕ} {i : ℕ} → Stored l i v m → i + length
 stored-past {l} {v} {m} {i} s h =
     let long : length (take i l ++ v) ≡ i + length v = rw (length-append, length-take-le i l (omega arith)) in
     ap (drop (i + length v)) (s .is ∙ sets-eq v l i h) ∙ drop-at (take i l ++ v) (drop (i + length v) l) (i + length v) long
+
+-- So is a part of the list that begins there or later.
+pub stored-part : {l v m : List ℕ} {i : ℕ} → Stored l i v m → i + length v ≤ length l → (at n : ℕ) → i + length v ≤ at → part m at n ≡ part l at n
+stored-part {l} {v} {m} {i} s h at n past =
+    let end = i + length v in
+    let on : end + (at - end) ≡ at = omega arith in
+    ap (take n)
+    (ap (λ (k : ℕ). drop k m) (sym on)
+    ∙ sym (drop-drop (at - end) end m)
+    ∙ ap (drop (at - end)) (stored-past s h)
+    ∙ drop-drop (at - end) end l
+    ∙ ap (λ (k : ℕ). drop k l) on)
 
 pub stored-length : {l vs m : List ℕ} {i : ℕ} → Stored l i vs m → length m ≡ length l
 stored-length {l} {vs} {m} {i} w = ap length (w .is) ∙ length-sets l i vs

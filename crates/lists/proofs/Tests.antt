@@ -11,7 +11,7 @@ use lib.ListN.{length, getD, take, drop, replicate, drop-of-length-le}
 use lib.Seq.{take-nil, drop-nil, take-suc, take-all, take-take, length-take-le, drop-append-le, ext-getD}
 use lib.Dec.{leb, ltb}
 use borrow.Author.Tests.{ltb-true, ltb-false, leb-true, leb-false, lt-ltb, le-ltb, lt-leb, le-leb}
-use Rattle.model.specs.Lists.{within, isZero, total, largest, concat, all, any, numbered, allStations, upward}
+use Rattle.model.specs.Lists.{within, isZero, total, largest, concat, all, any, only, numbered, allStations, upward}
 use Rattle.lists.proofs.Fills.{length-upward, getD-upward, upward-more, concat-append, concat-one}
 
 pub and-true : (a : Bool) → (a && true) ≡ a
@@ -283,3 +283,12 @@ pub largest-under : (l : List ℕ) (x : ℕ) → ((i : ℕ) → getD l i 0 ≤ x
 unfolding largest
 largest-under [] x each = omega arith
 largest-under (y ∷ l) x each = omega (arith, each 0, largest-under l x (λ i. each (suc i)))
+
+-- The entries that pass a test, of two lists one after the other.
+pub only-append : {A : Type 0} (test : A → Bool) (l m : List A) → only test (l ++ m) ≡ only test l ++ only test m
+unfolding only
+only-append test [] m = refl
+only-append test (x ∷ l) m =
+    either (λ b. cond b (x ∷ only test (l ++ m)) (only test (l ++ m)) ≡ cond b (x ∷ only test l) (only test l) ++ only test m) (test x)
+    (λ e. ap (λ t. x ∷ t) (only-append test l m))
+    (λ e. only-append test l m)

@@ -9,8 +9,8 @@ use lib.ListN.{length}
 use borrow.Author.Tests.{eq-eqb, ne-eqb}
 use Rattle.model.specs.declared.Block.{Block}
 use Rattle.model.specs.Lists.{isZero}
-use Rattle.model.specs.Bytes.{word, fourBytes, bits32}
-use Rattle.model.specs.Layout.{imageSize, nextAt, blockSize, replySize}
+use Rattle.model.specs.Bytes.{fourBytes, bits32}
+use Rattle.model.specs.Layout.{imageSize, blockSize, replySize}
 use Rattle.model.specs.Image.{decode, encode}
 use Rattle.model.specs.Questions.{firstNo, Answer, replyBytes}
 use Rattle.model.specs.Admission.{blockOf, arrival, accept, blockLengthQuestion, blockQuestions, stateQuestions, orderQuestions}
@@ -97,7 +97,3 @@ module _ (image block reply : List ℕ) (h : Heard image block reply) where
         fitting = rw e (considered image block reply (inl (sym (r .decides .number-is ∙ number-is) ∙ done)) .fitting);
         arrives = r .arrives done ∙ ap (arrival (decode image)) (sym e);
       }
-
-  pub next-is : word image nextAt ≡ decode image .next
-  unfolding decode
-  next-is = refl

@@ -1,4 +1,4 @@
-// Long runs: in a cabinet of each number of stations, 12,500 calls that a generator draws, and a row of figures after every 500.
+// Long runs: in a pipeline of each number of stations, 12,500 calls that a generator draws, and a row of figures after every 500.
 // The orders drawn, the digest, the counts and the rows are under contract in the crates that this calls, and so are the calls.
 // What the program prints is compared with what the second simulator gives for the same calls (tests/gate/soak): no promise here
 // speaks of a whole run.
@@ -19,9 +19,10 @@ use trial_orders::draw::draw_order;
 use trial_orders::draw::pick;
 use trial_orders::draw::step;
 
-const CABINETS: usize = 8;
+// One pipeline (document 01: cabinet) of each number of stations.
+const PIPELINES: usize = 8;
 
-// Rows of a cabinet, and calls of a row.
+// Rows of a pipeline, and calls of a row.
 const ROWS: u32 = 25;
 
 const CALLS: u32 = 500;
@@ -111,8 +112,8 @@ fn print(image: &[u8; 2128], n: usize, run: Run)
     io::write_all(1, &out[..end]);
 }
 
-// All calls in a cabinet of n stations, which is also the seed.
-fn cabinet(n: usize)
+// All calls in a pipeline of n stations, which is also the seed.
+fn pipeline(n: usize)
     requires { ⌜ (1 ≤ n) × (n ≤ maxStations) ⌝ }
 {
     let mut image = [0u8; 2128];
@@ -129,8 +130,8 @@ fn cabinet(n: usize)
 
 fn main() {
     let mut n = 1;
-    while n <= CABINETS {
-        cabinet(n);
+    while n <= PIPELINES {
+        pipeline(n);
         n += 1;
     }
 }

@@ -5,7 +5,6 @@ use mathlib.Core.List.{List}
 use Prim.Native.Nat.{ℕ, _+_, _<_}
 use native.Mathlib.Omega.{arith}
 use borrow.Author.Needs.{needs}
-use lib.ListN.{getD}
 use lib.Dec.{eqb}
 use Rattle.model.specs.declared.Block.{Block}
 use Rattle.model.specs.declared.Order.{Order}
@@ -14,6 +13,7 @@ use Rattle.model.specs.Image.{liveCount, decode}
 use Rattle.model.specs.Admission.{arrival, accept}
 use Rattle.lists.proofs.Stores.{stored-length}
 use Rattle.roundtrip.specs.InRange.{byteLimit, Below}
+use Rattle.roundtrip.proofs.Read.{decode-n}
 use Rattle.acceptance.specs.Acceptable.{Acceptable}
 use Rattle.acceptance.proofs.AcceptLaws.{room, sums, accepted}
 use Rattle.acceptance.proofs.accept.Statement.{statement}
@@ -26,11 +26,7 @@ bytes-of c i = c .slice-known .given i .fits
 spare : (c : tie.After-slice-known) → liveCount (c .before .args .image .now) < 32
 spare c = room (c .before .pre) (bytes-of c)
 
--- The count of stations stays; the ticket after the arrival's is the next one.
-n-is : (image : List ℕ) → getD image 5 0 ≡ decode image .n
-unfolding decode
-n-is image = refl
-
+-- The ticket after the arrival's is the next one.
 next-is : (image : List ℕ) {b : Block} {a : Order} {next : ℕ} → Acceptable image b a → next ≡ cond (eqb (a .ticket) lastTicket) 0 (a .ticket + 1) → next ≡ accept (decode image) b .next
 unfolding accept arrival
 next-is image ok e = e ∙ rw (ok .arrives)
@@ -86,7 +82,7 @@ returns c =
     let ok = known .before .pre in
     let rows = rw (joined .before .wide .ensures) at (joined .put-joined .ensures) in
     let laid = rw (put .before .wide2 .ensures) at (put .put-order .ensures .0) in
-    accepted ok (bytes-of known) refl (rows .0) (rows .1) laid (put .put-order .ensures .1) (head .put-header .ensures) (n-is _) (next-is _ ok (head .before .ticket-after .ensures))
+    accepted ok (bytes-of known) refl (rows .0) (rows .1) laid (put .put-order .ensures .1) (head .put-header .ensures) (decode-n _) (next-is _ ok (head .before .ticket-after .ensures))
 
 pub accept-spec : {M : Type 1} → statement M
 accept-spec =

@@ -1,7 +1,6 @@
 -- Question by question: what is left of each test is the test of the next. What is read of the image are its state's figures.
-use mathlib.Core.Path.{_≡_, refl, sym, ap, subst, _∙_}
+use mathlib.Core.Path.{_≡_, sym, ap, subst, _∙_}
 use mathlib.Core.Bool.{Bool, true, false, not}
-use mathlib.Core.List.{List}
 use Prim.Native.Nat.{ℕ, _≤_}
 use native.Mathlib.Omega.{arith}
 use lib.ListN.{length}
@@ -9,15 +8,13 @@ use lib.Dec.{leb, ltb}
 use borrow.Author.Tests.{le-leb, lt-leb, lt-ltb, le-ltb}
 use borrow.Author.Needs.{needs}
 use Rattle.model.specs.Limits.{maxLive, maxDueIn, lastTick}
-use Rattle.model.specs.Bytes.{word}
 use Rattle.model.specs.State.{State}
-use Rattle.model.specs.Layout.{clockAt, nextAt, recordPart}
-use Rattle.model.specs.Image.{liveCount, orderOf, decode}
+use Rattle.model.specs.Image.{decode}
 use Rattle.model.specs.Admission.{dueOf}
 use Rattle.lists.proofs.Signs.{flip}
-use Rattle.lists.proofs.Fills.{length-upward}
 use Rattle.image.specs.Pipeline.{listed}
 use Rattle.roundtrip.specs.InRange.{byteLimit, Below}
+use Rattle.roundtrip.proofs.Read.{decode-clock, decode-next, decode-live}
 use Rattle.roundtrip.proofs.Sound.{sound-gives}
 use Rattle.offers.proofs.Questions.{fitting}
 use Rattle.offers.specs.Considered.{Fitting}
@@ -26,19 +23,6 @@ use Rattle.sound_pipeline.proofs.Decoded.{readable, listed-is, sound-pipeline}
 use Rattle.admission.proofs.OfferLaws.{Block-is, costs-no, due-in-no, due-tick-no, tickets-no, room-no, all-yes}
 use Rattle.admission.proofs.offer.Statement.{statement}
 use Rattle.admission.proofs.offer.Tie as tie
-
--- The figures of the state that the image says, where the image has them.
-clock-is : (image : List ℕ) → word image clockAt ≡ decode image .clock
-unfolding decode
-clock-is image = refl
-
-next-is : (image : List ℕ) → word image nextAt ≡ decode image .next
-unfolding decode
-next-is image = refl
-
-live-is : (image : List ℕ) → liveCount image ≡ length (decode image .orders)
-unfolding decode
-live-is image = sym (length-upward 0 (liveCount image) (λ i. orderOf (recordPart image i)))
 
 -- What has been asked so far, from the last question back.
 abbrev start-of : tie.After-fits2 → tie.Start
@@ -66,10 +50,10 @@ due-in-passes c = le-leb (start-of (fits-of c) .args .b .«due_in») maxDueIn (o
 
 -- The due tick that is tested is the order's at the state's clock, and the ticket the state's next.
 due-is : (c : tie.After-fits2) → dueOf (c .before .before .before .before .before .u32-at .result) (start-of c .args .b) ≡ dueOf (decode (start-of c .args .image .now) .clock) (start-of c .args .b)
-due-is c = ap (λ (k : ℕ). dueOf k (start-of c .args .b)) (c .before .before .before .before .before .u32-at .ensures ∙ clock-is (start-of c .args .image .now))
+due-is c = ap (λ (k : ℕ). dueOf k (start-of c .args .b)) (c .before .before .before .before .before .u32-at .ensures ∙ decode-clock (start-of c .args .image .now))
 
 ticket-is : (c : tie.After-fits2) → c .before .before .before .before .u32-at2 .result ≡ decode (start-of c .args .image .now) .next
-ticket-is c = c .before .before .before .before .u32-at2 .ensures ∙ next-is (start-of c .args .image .now)
+ticket-is c = c .before .before .before .before .u32-at2 .ensures ∙ decode-next (start-of c .args .image .now)
 
 due-tick-passes : (c : tie.Else3) → let top = start-of (fits-of (c .before .before .before)) in leb (dueOf (decode (top .args .image .now) .clock) (top .args .b)) lastTick ≡ true
 due-tick-passes c =
@@ -85,7 +69,7 @@ ticket-passes c =
 room-passes : (c : tie.Else5) → ltb (length (decode (start-of (fits-of (else2-of (c .before))) .args .image .now) .orders)) maxLive ≡ true
 room-passes c =
     let image = start-of (fits-of (else2-of (c .before))) .args .image .now in
-    lt-ltb (length (decode image .orders)) maxLive (omega (arith, live-is image, c .if5 .left))
+    lt-ltb (length (decode image .orders)) maxLive (omega (arith, decode-live image, c .if5 .left))
 
 u32-at-requires : tie.Need-u32-at-requires
 u32-at-requires c κs = search needs
@@ -158,7 +142,7 @@ returns-5 c =
     let else2 = else2-of else4 in
     let image = start-of (fits-of else2) .args .image .now in
     subst (Offers _ _ _) (sym (c .declined5 .ensures))
-    (room-no _ _ (block-passes (else2 .before .before)) (due-in-passes else2) (due-tick-passes (else4 .before)) (ticket-passes else4) (le-ltb (length (decode image .orders)) maxLive (omega (arith, live-is image, c .before .if5 .taken))))
+    (room-no _ _ (block-passes (else2 .before .before)) (due-in-passes else2) (due-tick-passes (else4 .before)) (ticket-passes else4) (le-ltb (length (decode image .orders)) maxLive (omega (arith, decode-live image, c .before .if5 .taken))))
 
 decode-requires : tie.Need-decode-requires
 decode-requires c κs =

@@ -1,5 +1,8 @@
 -- Three stores over the image of the state.
+use native.Mathlib.Omega.{arith}
 use borrow.Author.Needs.{needs}
+use Rattle.sound_pipeline.proofs.Carried.{few}
+use Rattle.leaving.proofs.LeaveLaws.{count-is}
 use Rattle.advance_call.proofs.After.{held, holds, written}
 use Rattle.advance_call.proofs.put_after.Statement.{statement}
 use Rattle.advance_call.proofs.put_after.Tie as tie
@@ -19,7 +22,10 @@ leave-requires c κs =
     rw (c .before .wide32 .ensures, c .wide .ensures, pre .1) (rw (pre .1) at (pre .0), held (pre .2), holds (pre .2))
 
 cast-put-header : tie.Need-cast-put-header
-cast-put-header c = search needs
+cast-put-header c =
+    let leave = c .before .before .before in
+    let top = leave .before .before .before .before .before .before in
+    omega (arith, leave .leave .ensures .few, count-is (top .args .image .now) (leave .before .wide .result), leave .before .wide .ensures, few (top .pre .2))
 
 add-put-header : tie.Need-add-put-header
 add-put-header c = search needs

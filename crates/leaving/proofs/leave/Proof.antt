@@ -1,7 +1,7 @@
 -- By the test: the records of those that remain, and zeros; or nothing.
 use mathlib.Core.Path.{sym, _∙_}
 use borrow.Author.Needs.{needs}
-use Rattle.leaving.proofs.LeaveLaws.{room-for, left, none-leaves}
+use Rattle.leaving.proofs.LeaveLaws.{room-for, kept-few, left, none-leaves}
 use Rattle.leaving.proofs.leave.Statement.{statement}
 use Rattle.leaving.proofs.leave.Tie as tie
 
@@ -12,7 +12,7 @@ put-remaining-requires : tie.Need-put-remaining-requires
 put-remaining-requires c κs = search needs
 
 put-unused-requires : tie.Need-put-unused-requires
-put-unused-requires c κs = (search needs, c .before .before .before .put-remaining .ensures .few, room-for _ _ (c .before .before .before .before .before .before .before .before .pre .1))
+put-unused-requires c κs = (search needs, kept-few _ _ (c .before .before .before .put-remaining .ensures), room-for _ _ (c .before .before .before .before .before .before .before .before .pre .1))
 
 same-length : tie.Need-same-length
 same-length c = search needs

@@ -3,7 +3,7 @@ use mathlib.Core.Path.{_≡_, _∙_}
 use mathlib.Core.Logic.{⊎-elim}
 use Prim.Native.Nat.{_-_, _≤_, _<_}
 use native.Mathlib.Omega.{arith}
-use lib.ListN.{length}
+use lib.ListN.{length, take}
 use borrow.Author.Tests.{le-leb, lt-leb}
 use borrow.Author.Needs.{needs}
 use Rattle.model.specs.Limits.{maxLive}
@@ -12,12 +12,12 @@ use Rattle.model.specs.Image.{ordersOf}
 use Rattle.lists.proofs.Stores.{stored-length}
 use Rattle.selection.specs.Candidates.{Placed}
 use Rattle.leaving.specs.Remaining.{Moved}
-use Rattle.leaving.proofs.LeaveLaws.{none-yet, room-for, below, next-read, placed-here, one-stays, one-out}
+use Rattle.leaving.proofs.LeaveLaws.{none-yet, few-of, room-for, below, next-read, placed-here, one-stays, one-out, all-moved}
 use Rattle.leaving.proofs.put_remaining.Statement.{statement}
 use Rattle.leaving.proofs.put_remaining.Tie as tie
 
 abbrev Inv-loop : tie.InvT-loop
-Inv-loop image₀ n live services kept₀ i₀ image kept i = (i ≤ live) × (length image ≡ imageSize) × Moved n services (ordersOf image₀ live) i image₀ kept image
+Inv-loop image₀ n live services kept₀ i₀ image kept i = (i ≤ live) × (length image ≡ imageSize) × Moved n services (take i (ordersOf image₀ live)) image₀ kept image
 
 abbrev μ-loop : tie.MeasureT-loop
 μ-loop image₀ n live services kept₀ i₀ image kept i = live - i
@@ -29,14 +29,19 @@ start-of c = c .before .before .before
 within : (c : tie.In-loop Inv-loop μ-loop) → c .before .loop .i < maxLive
 within c = let top = start-of c in omega (arith, room-for (top .args .image .now) (top .args .live) (top .pre .1))
 
+few : (c : tie.In-loop Inv-loop μ-loop) → c .before .loop .kept ≤ c .before .loop .i
+few c = let top = start-of c in few-of (top .args .image .now) (top .args .live) (top .pre .1) (c .before .loop .inv .0) (c .before .loop .inv .2)
+
 -- The order that is read is the next one; it has a ticket and is at one of the stations.
 abbrev in-of : tie.After-order-at Inv-loop μ-loop → tie.In-loop Inv-loop μ-loop
 in-of c = c .before .before
 
 here : (c : tie.After-order-at Inv-loop μ-loop) → Placed (c .order-at .result)
 here c =
-    let top = start-of (in-of c) in
-    placed-here _ _ (top .pre .1) (top .pre .0) (in-of c .before .loop .inv .2) (omega arith) (c .order-at .ensures)
+    let k = in-of c in
+    let top = start-of k in
+    let more : k .before .loop .i < top .args .live = omega arith in
+    placed-here _ _ (top .pre .1) (top .pre .0) (k .before .loop .inv .2) more (c .order-at .ensures)
 
 loop-holds : tie.Need-loop-holds Inv-loop μ-loop
 loop-holds c = (omega arith, search needs, none-yet _ (c .before .pre .1) _)
@@ -60,16 +65,16 @@ moved-requires : tie.Need-moved-requires Inv-loop μ-loop
 moved-requires c κs = here (c .before .before) .high
 
 mul-put-order : tie.Need-mul-put-order Inv-loop μ-loop
-mul-put-order c = omega (arith, within (c .before .before .before .before .before .before .before .before), c .before .before .before .before .before .before .before .before .before .loop .inv .2 .few)
+mul-put-order c = omega (arith, within (c .before .before .before .before .before .before .before .before), few (c .before .before .before .before .before .before .before .before))
 
 add-put-order : tie.Need-add-put-order Inv-loop μ-loop
-add-put-order c = omega (arith, within (c .before .before .before .before .before .before .before .before), c .before .before .before .before .before .before .before .before .before .loop .inv .2 .few)
+add-put-order c = omega (arith, within (c .before .before .before .before .before .before .before .before), few (c .before .before .before .before .before .before .before .before))
 
 put-order-requires : tie.Need-put-order-requires Inv-loop μ-loop
-put-order-requires c κs = omega (arith, within (c .before .before .before .before .before .before .before .before), c .before .before .before .before .before .before .before .before .before .loop .inv .2 .few, c .before .before .before .before .before .before .before .before .before .loop .inv .1)
+put-order-requires c κs = omega (arith, within (c .before .before .before .before .before .before .before .before), few (c .before .before .before .before .before .before .before .before), c .before .before .before .before .before .before .before .before .before .loop .inv .1)
 
 add-kept : tie.Need-add-kept Inv-loop μ-loop
-add-kept c = omega (arith, within (c .before .before .before .before .before .before .before .before .before .before .before), c .before .before .before .before .before .before .before .before .before .before .before .before .loop .inv .2 .few)
+add-kept c = omega (arith, within (c .before .before .before .before .before .before .before .before .before .before .before), few (c .before .before .before .before .before .before .before .before .before .before .before))
 
 add-i : tie.Need-add-i Inv-loop μ-loop
 add-i c = omega (arith, within (c .before .before .before .before .before .before .before))
@@ -101,7 +106,7 @@ same-length c = search needs
 returns : tie.Need-returns Inv-loop μ-loop
 returns c =
     let e : c .before .loop .i ≡ c .before .before .before .args .live = omega arith in
-    rw e at (c .before .loop .inv .2)
+    all-moved _ _ (rw e at (c .before .loop .inv .2))
 
 pub put-remaining-spec : {M : Type 1} → statement M
 put-remaining-spec =

@@ -5,11 +5,12 @@ use mir.Facts.{toZ-ofZ}
 use borrow.Author.Needs.{needs}
 use Rattle.model.specs.Image.{decode}
 use Rattle.model.specs.Admission.{blockOf}
+use Rattle.roundtrip.proofs.Read.{decode-next}
 use Rattle.decision.specs.declared.Reply.{Reply}
 use Rattle.decision.specs.Decision.{numberOf}
 use Rattle.admission.specs.Answers.{Answers}
 use Rattle.offer_calls.specs.Heard.{Heard}
-use Rattle.offer_calls.proofs.HeardLaws.{offer-declined, offer-done, acceptable, next-is}
+use Rattle.offer_calls.proofs.HeardLaws.{offer-declined, offer-done, acceptable}
 use Rattle.offer_calls.proofs.offered.Statement.{statement}
 use Rattle.offer_calls.proofs.offered.Tie as tie
 
@@ -63,7 +64,7 @@ returns c =
     let told = put .before .before in
     let reply-of = told .before .before in
     let answer = reply-of .before .before .before in
-    rw (accept .accept .ensures, answer .before .before .block-of .ensures, put .put-reply .ensures, put .before .bits .ensures, toZ-ofZ {w = w32} (record { sfits = told .struct-told .given .1 .1 .1 .0 .1 }), reply-of .reply-of .ensures, reply-of .before .u32-at .ensures, next-is _ _ _ (heard-of answer))
+    rw (accept .accept .ensures, answer .before .before .block-of .ensures, put .put-reply .ensures, put .before .bits .ensures, toZ-ofZ {w = w32} (record { sfits = told .struct-told .given .1 .1 .1 .0 .1 }), reply-of .reply-of .ensures, reply-of .before .u32-at .ensures, decode-next _)
     (offer-done _ _ _ (heard-of answer) (answer .offer .result .decision) (says answer .decides) (sym (number-is reply-of) ∙ then .if1 .taken))
 
 same-length-3 : tie.Need-same-length-3
@@ -78,7 +79,7 @@ returns-2 c =
     let told = put .before .before in
     let reply-of = told .before .before in
     let answer = reply-of .before .before .before in
-    rw (put .put-reply .ensures, put .before .bits .ensures, toZ-ofZ {w = w32} (record { sfits = told .struct-told .given .1 .1 .1 .0 .1 }), reply-of .reply-of .ensures, reply-of .before .u32-at .ensures, next-is _ _ _ (heard-of answer))
+    rw (put .put-reply .ensures, put .before .bits .ensures, toZ-ofZ {w = w32} (record { sfits = told .struct-told .given .1 .1 .1 .0 .1 }), reply-of .reply-of .ensures, reply-of .before .u32-at .ensures, decode-next _)
     (offer-declined _ _ _ (heard-of answer) (answer .offer .result .decision) (says answer .decides) (λ e. c .if1 .left (number-is reply-of ∙ e)))
 
 pub offered-spec : {M : Type 1} → statement M

@@ -1,4 +1,4 @@
--- A cabinet a turn, from 1 station to 8.
+-- A pipeline a turn, from 1 station to 8.
 use Prim.Native.Nat.{_-_, _≤_}
 use native.Mathlib.Omega.{arith}
 use Rattle.soak.proofs.main.Statement.{statement}
@@ -13,8 +13,8 @@ abbrev μ-loop : tie.MeasureT-loop
 loop-holds : tie.Need-loop-holds Inv-loop μ-loop
 loop-holds c = omega arith
 
-cabinet-requires : tie.Need-cabinet-requires Inv-loop μ-loop
-cabinet-requires c κs = (omega arith, omega arith)
+pipeline-requires : tie.Need-pipeline-requires Inv-loop μ-loop
+pipeline-requires c κs = (omega arith, omega arith)
 
 add-n : tie.Need-add-n Inv-loop μ-loop
 add-n c = omega arith
@@ -35,7 +35,7 @@ main-spec =
     Inv-loop
     μ-loop
     loop-holds
-    cabinet-requires
+    pipeline-requires
     add-n
     loop-less
     loop-again

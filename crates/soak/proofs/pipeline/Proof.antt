@@ -2,8 +2,8 @@
 use Prim.Native.Nat.{_-_, _≤_}
 use native.Mathlib.Omega.{arith}
 use borrow.Author.Needs.{needs}
-use Rattle.soak.proofs.cabinet.Statement.{statement}
-use Rattle.soak.proofs.cabinet.Tie as tie
+use Rattle.soak.proofs.pipeline.Statement.{statement}
+use Rattle.soak.proofs.pipeline.Tie as tie
 
 abbrev Inv-loop : tie.InvT-loop
 Inv-loop n image₀ reply₀ run₀ row₀ image reply run row = row ≤ 25
@@ -50,8 +50,8 @@ loop-again c = omega arith
 returns : tie.Need-returns Inv-loop μ-loop
 returns c = tt
 
-pub cabinet-spec : {M : Type 1} → statement M
-cabinet-spec =
+pub pipeline-spec : {M : Type 1} → statement M
+pipeline-spec =
     tie.close
     (tie.spec
     Inv-loop
