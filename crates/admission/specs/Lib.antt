@@ -1,3 +1,9 @@
+-- The range of margins.
+pub mod Margins
+-- What the answers to an offer say.
+pub mod Decision
 -- The arrival, and what the answers to an offer say.
 pub mod Arrival
-pub mod Answers
+pub mod OrderQuestions
+-- What is asked of an image before an order is accepted into it.
+pub mod Acceptance

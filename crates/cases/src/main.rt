@@ -4,14 +4,14 @@
 // crate `planning`.
 ghost use Prim.Native.Nat.{_≤_};
 ghost use lib.ListN.{length};
-use case_lines::put_reply_line;
 use dispatcher::advance::dispatcher_advance;
 use dispatcher::offer::dispatcher_offer;
 use dispatcher::offer::dispatcher_quote;
 use dispatcher::open::dispatcher_open;
-use inspection::explain;
-use plan_text::print_plan;
-use trial_orders::block::order_block;
+use image_text::explanation::explain;
+use plan_text::print::print_plan;
+use trials::block::order_block;
+use trials::case_lines::put_reply_line;
 
 // The line of a call.
 fn say(call: &[u8], reply: &[u8; 16])

@@ -30,15 +30,15 @@ use Rattle.schedule.specs.Accept.{acceptNext}
 use Rattle.schedule.proofs.Accept.{Origin, old, new, origin, old-in, new-in}
 use Rattle.delay.proofs.Book.{record-new, state-accept}
 use Rattle.lists.proofs.Tests.{and-both}
-use Rattle.offers.specs.Considered as asked
-use Rattle.roundtrip.specs.Iff.{_⇔_}
-use Rattle.offers.specs.Exact.{InTime}
-use Rattle.offers.specs.Exact as state
-use Rattle.offers.proofs.Questions.{Decided}
-use Rattle.offers.proofs.Questions as questions
-use Rattle.offers.proofs.Margins.{smallest-margin}
-use Rattle.offers.proofs.Exact.{margin-near, exact}
-use Rattle.advances.proofs.Exact.{advance-numbers}
+use Rattle.call_laws.specs.Considered as asked
+use Rattle.image_laws.specs.Iff.{_⇔_}
+use Rattle.call_laws.specs.OfferExact.{InTime}
+use Rattle.call_laws.specs.OfferExact as state
+use Rattle.call_laws.proofs.offers.Questions.{Decided}
+use Rattle.call_laws.proofs.offers.Questions as questions
+use Rattle.call_laws.proofs.offers.Margins.{smallest-margin}
+use Rattle.call_laws.proofs.offers.Exact.{margin-near, exact}
+use Rattle.call_laws.proofs.advances.Exact.{advance-numbers}
 use Rattle.claims.specs.ByHistory.{tried, arriving, OnTime, Late, marginOf, Considered, Smallest, Judged, InStep, ByHistory}
 use Rattle.claims.proofs.Invariant.{Invariant, whole, usable, says, offer-asks, advance-asks, invariant-started, invariant-all}
 use Rattle.claims.proofs.Demand3.{due-last, ahead, reply-tick}

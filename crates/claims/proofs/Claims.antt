@@ -1,10 +1,10 @@
 -- All claims, each from where it is proved.
-use Rattle.planning.proofs.Meaning.{meaning}
-use Rattle.planning.proofs.Cases.{chapter-six-holds}
-use Rattle.planning.proofs.Leaves.{leaves, not-read}
-use Rattle.offers.proofs.Exact.{exact}
-use Rattle.offers.proofs.Kept.{offer-keeps-sound}
-use Rattle.advances.proofs.Kept.{advance-keeps-sound}
+use Rattle.plan_model.proofs.Meaning.{meaning}
+use Rattle.plan_model.proofs.Cases.{chapter-six-holds}
+use Rattle.plan_model.proofs.Leaves.{leaves, not-read}
+use Rattle.call_laws.proofs.offers.Exact.{exact}
+use Rattle.call_laws.proofs.offers.Kept.{offer-keeps-sound}
+use Rattle.call_laws.proofs.advances.Kept.{advance-keeps-sound}
 use Rattle.claims.specs.Claims.{Claims}
 use Rattle.claims.proofs.Demand3.{demand-3}
 use Rattle.claims.proofs.ByHistory.{by-history}

@@ -22,9 +22,9 @@ use Rattle.schedule.specs.Valid.{_∈_}
 use Rattle.schedule.proofs.Out.{ticket-out-as-asked}
 use Rattle.delay.proofs.Book.{length-accept}
 use Rattle.delay.proofs.DueTimes.{live-record, none-live, kept-live}
-use Rattle.roundtrip.specs.InRange.{wordLimit}
-use Rattle.roundtrip.proofs.Numbers.{word-of-four}
-use Rattle.advances.proofs.Exact.{advance-numbers}
+use Rattle.image_laws.specs.InRange.{wordLimit}
+use Rattle.image_laws.proofs.Numbers.{word-of-four}
+use Rattle.call_laws.proofs.advances.Exact.{advance-numbers}
 use Rattle.claims.proofs.Out.{advanced-clock, out-in-history}
 use Rattle.claims.proofs.Invariant.{Invariant, usable, says, few, open-done, invariant-started, invariant-call, invariant-all}
 

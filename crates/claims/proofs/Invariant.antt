@@ -27,22 +27,22 @@ use Rattle.schedule.specs.Valid.{_∈_}
 use Rattle.delay.specs.Events.{MayAccept}
 use Rattle.delay.proofs.Book.{length-accept, same-clock}
 use Rattle.delay.proofs.DueTimes as due
-use Rattle.roundtrip.specs.SoundFacts.{SoundInRange}
-use Rattle.roundtrip.specs.Usable.{Usable}
-use Rattle.roundtrip.proofs.Written.{decode-encode, encode-length, encode-marked}
-use Rattle.roundtrip.proofs.Sound.{gives-sound}
-use Rattle.roundtrip.proofs.Fresh.{fresh-sound}
-use Rattle.offers.specs.Considered.{Fitting}
-use Rattle.offers.specs.Exact.{InTime}
-use Rattle.offers.proofs.Questions.{eight-ranks, eight-costs}
-use Rattle.offers.proofs.Times.{time-says, live-say}
-use Rattle.offers.proofs.Exact.{exact}
-use Rattle.offers.proofs.Accept.{accept-length, accept-sound}
-use Rattle.offers.proofs.Kept.{done-image, decline-leaves, quote-gives-offer}
-use Rattle.advances.proofs.Exact.{advance-numbers}
-use Rattle.advances.proofs.Advance.{advance-sound}
-use Rattle.advances.proofs.Kept.{advance-decline-leaves}
-use Rattle.advances.proofs.Kept as advances
+use Rattle.image_laws.specs.SoundFacts.{SoundInRange}
+use Rattle.image_laws.specs.Usable.{Usable}
+use Rattle.image_laws.proofs.Written.{decode-encode, encode-length, encode-marked}
+use Rattle.image_laws.proofs.Sound.{gives-sound}
+use Rattle.image_laws.proofs.Fresh.{fresh-sound}
+use Rattle.call_laws.specs.Considered.{Fitting}
+use Rattle.call_laws.specs.OfferExact.{InTime}
+use Rattle.call_laws.proofs.offers.Questions.{eight-ranks, eight-costs}
+use Rattle.call_laws.proofs.offers.Times.{time-says, live-say}
+use Rattle.call_laws.proofs.offers.Exact.{exact}
+use Rattle.call_laws.proofs.offers.Accept.{accept-length, accept-sound}
+use Rattle.call_laws.proofs.offers.Kept.{done-image, decline-leaves, quote-gives-offer}
+use Rattle.call_laws.proofs.advances.Exact.{advance-numbers}
+use Rattle.call_laws.proofs.advances.Advance.{advance-sound}
+use Rattle.call_laws.proofs.advances.Kept.{advance-decline-leaves}
+use Rattle.call_laws.proofs.advances.Kept as advances
 use Rattle.claims.proofs.Out.{advanced-count, advanced-clock, kept-advance, state-advance, one-out}
 
 pub record Invariant (run : Run) : Type 0 where

@@ -3,9 +3,9 @@ use mathlib.Core.List.{map}
 use Rattle.model.specs.Cases.{paperCases}
 use Rattle.model.proofs.Cases.{paper-cases-hold}
 use Rattle.lists.proofs.Tests.{all-append}
-use Rattle.roundtrip.proofs.Tests.{all-map}
-use Rattle.planning.specs.Cases.{paperTables}
-use Rattle.planning.proofs.Cases.{paper-tables-hold}
+use Rattle.image_laws.proofs.Tests.{all-map}
+use Rattle.plan_model.specs.Cases.{paperTables}
+use Rattle.plan_model.proofs.Cases.{paper-tables-hold}
 use Rattle.claims.specs.WorkedCases.{ofCalls, ofPlan, caseHolds, paperTable, WorkedCases}
 
 pub worked-cases-hold : WorkedCases

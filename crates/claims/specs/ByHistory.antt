@@ -20,7 +20,7 @@ use Rattle.model.specs.History.{Entry, History, liveOrders, entryDue, entryBoun
 use Rattle.model.specs.StateOf.{stateOf}
 use Rattle.model.specs.Demand3.{Lent, Run, started, outcome, afterAll, AllAllowed}
 use Rattle.schedule.specs.Valid.{_∈_}
-use Rattle.roundtrip.specs.Iff.{_⇔_}
+use Rattle.image_laws.specs.Iff.{_⇔_}
 
 -- "Offer tries the sums as they would be with the newcomer": the history as it would be with the order accepted, and the arrival (document 01: newcomer) in it.
 abbrev pub tried : History → List ℕ → History

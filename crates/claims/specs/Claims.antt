@@ -5,12 +5,12 @@ use mathlib.Core.Bool.{true}
 use mathlib.Core.List.{List}
 use Prim.Native.Nat.{ℕ}
 use Rattle.model.specs.Demand3.{Demand3}
-use Rattle.planning.specs.declared.Task.{Task}
-use Rattle.planning.specs.Meaning.{Meaning, Leaves, NotRead}
-use Rattle.planning.specs.Cases.{isPrinted, chapterSix}
-use Rattle.offers.specs.Exact.{Exact}
-use Rattle.offers.specs.Kept.{OfferKeepsSound}
-use Rattle.advances.specs.Kept.{AdvanceKeepsSound}
+use Rattle.plan_model.specs.declared.Task.{Task}
+use Rattle.plan_model.specs.Meaning.{Meaning, Leaves, NotRead}
+use Rattle.plan_model.specs.Cases.{isPrinted, chapterSix}
+use Rattle.call_laws.specs.OfferExact.{Exact}
+use Rattle.call_laws.specs.OfferKept.{OfferKeepsSound}
+use Rattle.call_laws.specs.AdvanceKept.{AdvanceKeepsSound}
 use Rattle.claims.specs.ByHistory.{ByHistory}
 use Rattle.claims.specs.Progress.{Progress}
 use Rattle.claims.specs.WorkedCases.{WorkedCases}

@@ -5,7 +5,7 @@ use mathlib.Core.List.{List, _++_, map}
 use Rattle.model.specs.Lists.{all}
 use Rattle.model.specs.Table.{Row, holds}
 use Rattle.model.specs.Cases.{paperCases}
-use Rattle.planning.specs.Cases.{Printing, isPrinted, paperTables}
+use Rattle.plan_model.specs.Cases.{Printing, isPrinted, paperTables}
 
 pub data Case : Type 0 where
   -- Calls from a fresh cabinet on, row by row.

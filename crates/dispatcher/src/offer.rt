@@ -1,10 +1,10 @@
 // "quote and offer 1 to 12"; "Quote gives what offer would give, with ticket 0, and changes nothing in the image."
 ghost use Rattle.model.specs.Calls.{offerCall, quoteCall};
-ghost use Rattle.call_results.specs.Gives.{Gives};
-use call_results::put_decline;
-use offer_calls::first_number;
-use offer_calls::offered;
-use offer_calls::quoted;
+ghost use Rattle.dispatcher.specs.Gives.{Gives};
+use super::offer_parts::first_number;
+use super::offer_parts::offered;
+use super::offer_parts::quoted;
+use super::replies::put_decline;
 
 // Whether an order would be accepted, and what the reply would give. Neither a ticket in the reply nor an order block of 27
 // bytes taken meets the promise.

@@ -1,3 +1,3 @@
--- The two forms of the state.
-pub mod Rows
-pub mod TwoForms
+-- What such a state gives the code that carries it, and that a sound image is decoded to one.
+pub mod Carried
+pub mod Decoded

@@ -8,7 +8,7 @@ use Rattle.model.specs.Limits.{maxLive}
 use Rattle.model.specs.State.{State}
 use Rattle.model.specs.Layout.{imageSize}
 use Rattle.model.specs.Image.{liveCount}
-use Rattle.image.specs.declared.Pipeline.{Pipeline}
+use Rattle.image.specs.declared.pipeline.Pipeline.{Pipeline}
 
 -- "the rest all zero"
 abbrev pub eightZeros : List ℕ

@@ -9,6 +9,6 @@ fn main() {
     let mut input = [0u8; MOST];
     let size = io::read_full(0, &mut input);
     let mut out = [0u8; 8192];
-    let end = inspection::explain(&input[..size], &mut out);
+    let end = image_text::explanation::explain(&input[..size], &mut out);
     io::write_all(1, &out[..end]);
 }

@@ -1,25 +1,8 @@
-// The plan program's output for any input bytes, into a lent buffer that always has room.
-ghost use Prim.Native.Nat.{_≤_};
-ghost use Rattle.lists.specs.Stored.{Put};
-ghost use Rattle.planning.specs.Output.{planOutput};
-
-// What the program prints, and how many bytes of the buffer it takes: the table, or the number of the first question that is
-// answered by "no". Ruled out: a table after a decline; 14, which plan has for no station, where the form has not passed.
-pub fn print_plan(input: &[u8], out: &mut [u8; 1024]) -> usize
-    ensures { λ r. ⌜ Put (now (out .entry)) 0 (planOutput (now (input .entry))) r (now (out .exit)) ⌝ }
-    ensures within { λ r. ⌜ r ≤ 1024 ⌝ }
-{
-    let parsed = plan_input::parse(input);
-    let form = parsed.form;
-    let number = plan_answer::number(form);
-    if number != 0 {
-        return plan_output::put_refusal(out, number);
-    }
-    let tasks = parsed.tasks;
-    let planned = planner::plan_array(tasks, parsed.count, parsed.n);
-    if planned.number != 0 {
-        return plan_output::put_refusal(out, planned.number);
-    }
-    let filled = planned.tasks;
-    plan_output::put_table(out, filled, parsed.count)
-}
+// The plan program but for reading and writing: input bytes to output bytes.
+pub mod words; // words and numbers of a text
+pub mod lines; // its lines
+pub mod answer; // the task set of an input, or why there is none
+pub mod task_lines; // the task lines
+pub mod input; // the questions of an input's form
+pub mod output; // a table printed
+pub mod print; // what the program prints for any input

@@ -11,13 +11,13 @@ use dispatcher::open::dispatcher_open;
 use image::layout::CLOCK_AT;
 use image::layout::LIVE_COUNT_AT;
 use image::layout::REPLY_TICKET_AT;
-use little_endian_reader::u32_at;
-use soak_rows::Run;
-use soak_rows::count;
-use soak_rows::fold_all;
-use trial_orders::draw::draw_order;
-use trial_orders::draw::pick;
-use trial_orders::draw::step;
+use image::reader::u32_at;
+use trials::draw::draw_order;
+use trials::draw::pick;
+use trials::draw::step;
+use trials::soak_rows::Run;
+use trials::soak_rows::count;
+use trials::soak_rows::fold_all;
 
 // One pipeline (document 01: cabinet) of each number of stations.
 const PIPELINES: usize = 8;
@@ -107,8 +107,8 @@ fn print(image: &[u8; 2128], n: usize, run: Run)
     let clock = u32_at(image, CLOCK_AT);
     let live = wide(image[LIVE_COUNT_AT]);
     let mut out = [0u8; 160];
-    let values = soak_rows::values_of(n as u32, clock, live, run);
-    let end = soak_rows::put_row(&mut out, values);
+    let values = trials::soak_rows::values_of(n as u32, clock, live, run);
+    let end = trials::soak_rows::put_row(&mut out, values);
     io::write_all(1, &out[..end]);
 }
 
@@ -119,7 +119,7 @@ fn pipeline(n: usize)
     let mut image = [0u8; 2128];
     let mut reply = [0u8; 16];
     dispatcher_open(&mut image, n as u32, &mut reply);
-    let mut run = soak_rows::start(n as u32);
+    let mut run = trials::soak_rows::start(n as u32);
     let mut row = 0;
     while row < ROWS {
         run = stretch(&mut image, &mut reply, n, run);

@@ -1,4 +1,3 @@
--- Laws of the clauses.
-pub mod RecordLaws
-pub mod LaterLaws
-pub mod CountLaws
+-- Laws that the clauses share.
+pub mod Parts
+pub mod Rising

@@ -1,8 +1,8 @@
 -- The first "no" of four declines; where there is none, what is lent is usable and the state decides.
 use mathlib.Core.Path.{sym, _∙_}
 use borrow.Author.Needs.{needs}
-use Rattle.roundtrip.proofs.Questions.{replied}
-use Rattle.advance_call.proofs.AdvanceLaws.{usable, declined}
+use Rattle.image_laws.proofs.Questions.{replied}
+use Rattle.dispatcher.proofs.advance_parts.AdvanceLaws.{usable, declined}
 use Rattle.dispatcher.proofs.advance.dispatcher_advance.Statement.{statement}
 use Rattle.dispatcher.proofs.advance.dispatcher_advance.Tie as tie
 

@@ -1,8 +1,8 @@
 -- As a quote, by the offer's call.
 use mathlib.Core.Path.{sym, _∙_}
 use borrow.Author.Needs.{needs}
-use Rattle.roundtrip.proofs.Questions.{replied}
-use Rattle.offer_calls.proofs.OfferLaws.{heard, offer-declined}
+use Rattle.image_laws.proofs.Questions.{replied}
+use Rattle.dispatcher.proofs.offer_parts.OfferLaws.{heard, offer-declined}
 use Rattle.dispatcher.proofs.offer.dispatcher_offer.Statement.{statement}
 use Rattle.dispatcher.proofs.offer.dispatcher_offer.Tie as tie
 

@@ -1,8 +1,8 @@
 -- The number first: one of the first five declines, and with none of them the state and the order decide.
 use mathlib.Core.Path.{sym, _∙_}
 use borrow.Author.Needs.{needs}
-use Rattle.roundtrip.proofs.Questions.{replied}
-use Rattle.offer_calls.proofs.OfferLaws.{heard, quote-declined}
+use Rattle.image_laws.proofs.Questions.{replied}
+use Rattle.dispatcher.proofs.offer_parts.OfferLaws.{heard, quote-declined}
 use Rattle.dispatcher.proofs.offer.dispatcher_quote.Statement.{statement}
 use Rattle.dispatcher.proofs.offer.dispatcher_quote.Tie as tie
 

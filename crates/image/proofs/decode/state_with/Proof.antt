@@ -1,6 +1,6 @@
 -- The parts of the image, each read by its own function.
 use borrow.Author.Needs.{needs}
-use Rattle.image.proofs.Rows.{parts-padded}
+use Rattle.image.proofs.pipeline.Rows.{parts-padded}
 use Rattle.image.proofs.decode.state_with.Statement.{statement}
 use Rattle.image.proofs.decode.state_with.Tie as tie
 

@@ -1,3 +1,0 @@
--- What holds of every advance.
-pub mod Exact
-pub mod Kept

@@ -1,0 +1,7 @@
+-- What holds of every offer and quote.
+pub mod Considered
+pub mod OfferExact
+pub mod OfferKept
+-- What holds of every advance.
+pub mod AdvanceExact
+pub mod AdvanceKept

@@ -1,3 +1,0 @@
--- What the contracts of the calls say, and what a decline replies.
-pub mod Gives
-pub mod Declined

@@ -1,2 +1,0 @@
--- What a program prints of a call.
-pub mod ReplyLine

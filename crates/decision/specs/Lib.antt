@@ -1,2 +1,0 @@
--- What the answers to an offer say.
-pub mod Decision

@@ -1,0 +1,3 @@
+-- The two forms of the state.
+pub mod Rows
+pub mod TwoForms

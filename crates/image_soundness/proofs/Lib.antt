@@ -1,3 +1,0 @@
--- Laws that the clauses share.
-pub mod Parts
-pub mod Rising

@@ -1,2 +1,0 @@
--- What `inspect` prints.
-pub mod Explained

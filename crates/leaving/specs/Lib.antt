@@ -1,2 +1,0 @@
--- The orders that are not out.
-pub mod Remaining

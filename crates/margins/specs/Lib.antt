@@ -1,2 +1,0 @@
--- The range of margins.
-pub mod Margins

@@ -1,2 +1,0 @@
--- What is asked before the state and the order are.
-pub mod Heard

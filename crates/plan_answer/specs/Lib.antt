@@ -1,2 +1,0 @@
--- The answer about an input.
-pub mod Answer

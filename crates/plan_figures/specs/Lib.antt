@@ -1,2 +1,0 @@
--- The figures of every task, over plain numbers.
-pub mod Figures

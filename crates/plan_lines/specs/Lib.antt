@@ -1,2 +1,0 @@
--- What a line of numbers says.
-pub mod Line

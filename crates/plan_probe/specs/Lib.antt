@@ -1,2 +1,0 @@
--- Plan over and over.
-pub mod Rounds

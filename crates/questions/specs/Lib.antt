@@ -1,2 +1,0 @@
--- The numbers of the questions.
-pub mod Answer

@@ -1,2 +1,0 @@
--- One record's clauses, together.
-pub mod Record

@@ -1,2 +1,0 @@
--- What `inspect` prints of an image.
-pub mod Report

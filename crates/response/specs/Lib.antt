@@ -1,2 +1,0 @@
--- The response iteration over plain numbers.
-pub mod Step

@@ -1,2 +1,0 @@
--- The limits of a row.
-pub mod Limits

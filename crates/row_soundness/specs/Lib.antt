@@ -1,2 +1,0 @@
--- What is asked of two rows together.
-pub mod Maxima

@@ -1,2 +1,0 @@
--- What is asked of a state that a step is taken from.
-pub mod SoundPipeline

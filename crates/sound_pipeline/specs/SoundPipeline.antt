@@ -1,9 +1,0 @@
--- A state that a sound image says, as code carries it.
-use mathlib.Core.Path.{_≡_}
-use Rattle.image.specs.declared.Pipeline.{Pipeline}
-use Rattle.image.specs.Pipeline.{listed, padded}
-use Rattle.roundtrip.specs.SoundFacts.{SoundInRange}
-
-pub record SoundPipeline (p : Pipeline) : Type 0 where
-  pub whole : p ≡ padded (listed p)
-  pub sound : SoundInRange (listed p)

@@ -1,1 +1,0 @@
-// Theorems only: the state of a sound image, as code carries it.

@@ -1,0 +1,4 @@
+-- Laws of the clauses.
+pub mod RecordLaws
+pub mod LaterLaws
+pub mod CountLaws

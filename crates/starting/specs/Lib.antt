@@ -1,2 +1,0 @@
--- Starts with the candidates.
-pub mod Starts

@@ -1,2 +1,0 @@
--- What question 17 says.
-pub mod Lines

@@ -1,2 +1,0 @@
--- The task set as plain numbers.
-pub mod Table

@@ -1,0 +1,80 @@
+// Who starts: for each idle station the order that goes first there.
+ghost use mathlib.Core.Path.{_≡_};
+ghost use mathlib.Core.Bool.{_||_};
+ghost use mathlib.Core.List.{map};
+ghost use mathlib.Core.Option.{some};
+ghost use Prim.Native.Nat.{suc, _<_};
+ghost use lib.ListN.{take};
+ghost use Rattle.model.specs.Limits.{maxStations};
+ghost use Rattle.model.specs.Lists.{isZero};
+ghost use Rattle.model.specs.Tick as tick;
+ghost use Rattle.tick.specs.Selection.{Queue, candidateOf};
+ghost use Rattle.tick.specs.Selection as defined;
+use model::Order;
+use model::Service;
+
+// The order that would start at a station: its ticket, and its cost and rank there; (0, 0, 0) for nobody.
+pub struct Candidate {
+    pub ticket: u32,
+    pub left: u16,
+    pub rank: u8,
+}
+
+// Whether an order goes before another: the rule of the queue, here alone. Neither the larger rank nor, of equal ranks, the
+// larger ticket meets the promise.
+fn precedes(rank: u8, ticket: u32, other_rank: u8, other_ticket: u32) -> bool
+    ensures { λ r. ⌜ r ≡ defined.before rank ticket «other_rank» «other_ticket» ⌝ }
+{
+    if rank == other_rank {
+        ticket < other_ticket
+    } else {
+        rank < other_rank
+    }
+}
+
+// Whether an order goes before the one found so far, which may be nobody.
+fn goes_first(rank: u8, ticket: u32, other_rank: u8, other_ticket: u32) -> bool
+    ensures { λ r. ⌜ r ≡ (isZero «other_ticket» || defined.before rank ticket «other_rank» «other_ticket») ⌝ }
+{
+    (other_ticket == 0) | precedes(rank, ticket, other_rank, other_ticket)
+}
+
+// An order as a candidate at the station of place i, counted from 0.
+fn candidate_at(o: Order, i: usize) -> Candidate
+    requires { ⌜ i < maxStations ⌝ }
+    ensures { λ r. ⌜ r ≡ candidateOf (suc i) (some (tick.view o)) ⌝ }
+{
+    Candidate {
+        ticket: o.ticket,
+        left: o.costs[i],
+        rank: o.ranks[i],
+    }
+}
+
+// Goes once over the live orders, from the last to the first: each is tried at its own station alone, if that is idle. Neither
+// a live order that is passed over nor one that is tried at another station meets the promise.
+pub fn candidates(services: [Service; 8], orders: [Order; 32], live: usize) -> [Candidate; 8]
+    requires { ⌜ Queue orders live ⌝ }
+    ensures { λ r. ⌜ r ≡ defined.candidates (map tick.view (take live orders)) services ⌝ }
+{
+    let mut found = [Candidate {
+        ticket: 0,
+        left: 0,
+        rank: 0,
+    }; 8];
+    let mut i = live;
+    while 0 < i {
+        i -= 1;
+        let o = orders[i];
+        let k = (o.station - 1) as usize;
+        let here = services[k];
+        if here.ticket == 0 {
+            let c = candidate_at(o, k);
+            let f = found[k];
+            if goes_first(c.rank, c.ticket, f.rank, f.ticket) {
+                found[k] = c;
+            }
+        }
+    }
+    found
+}
