@@ -1,7 +1,7 @@
 // Document 01's worked cases, made by the calls themselves, a line for each call. The stored output is written by hand from
 // document 01's figures, and no program made it. This one only makes the calls and writes: what it prints of a reply is
-// `replyLine` of the crate `case_lines`, of an image `explained` of the crate `inspection`, and of a table `planOutput` of the
-// crate `planning`.
+// `replyLine` of the crate `trials`, of an image `explained` of the crate `image_text`, and of a table `planOutput` of the
+// crate `plan_model`.
 ghost use Prim.Native.Nat.{_≤_};
 ghost use lib.ListN.{length};
 use dispatcher::advance::dispatcher_advance;

@@ -98,7 +98,7 @@ pub fn services_of(image: &[u8]) -> [Service; 8]
     services
 }
 
-// The first `live` records, and unused ones up to 32. The array is a local of its own, as the one that `image_writer` reads
+// The first `live` records, and unused ones up to 32. The array is a local of its own, as the one that `encode` reads
 // is: then the compiler keeps one array of records between the two, where a part of a larger struct would be copied.
 pub fn orders_of(image: &[u8], live: usize) -> [Order; 32]
     requires { ⌜ (length (now image) ≡ imageSize) × (live ≤ maxLive) ⌝ }

@@ -1,4 +1,4 @@
-// The text that the plan program prints, into a lent buffer. Each function stores one text of planning's `Output` from a place
+// The text that the plan program prints, into a lent buffer. Each function stores one text of plan_model's `Output` from a place
 // on, leaves every other byte alone, and answers the place after the last byte stored. It asks for exactly the room that its
 // text takes; proofs/Room.antt says how much is always enough.
 ghost use Prim.Native.Nat.{_+_, _≤_};

@@ -1,4 +1,4 @@
-// The line that a program prints of a call, into a lent buffer. Each function stores one text of specs/ReplyLine.antt from a
+// The line that a program prints of a call, into a lent buffer. Each function stores one text of specs/CaseLines.antt from a
 // place on, leaves every other byte alone, and answers the place after the last byte stored.
 ghost use Prim.Native.Nat.{_+_, _≤_};
 ghost use lib.ListN.{length};

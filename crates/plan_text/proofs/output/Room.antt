@@ -36,7 +36,7 @@ line-room k t h figures =
       word-room (t .verdict),
     )
 
--- 48,000 is the largest base there is (planning's proofs/Ranges.antt). 27 for the heading and 28 for each of 32 lines make 923.
+-- 48,000 is the largest base there is (plan_model's proofs/Ranges.antt). 27 for the heading and 28 for each of 32 lines make 923.
 pub table-room : (none : Task) (tasks : List Task) → length tasks ≤ maxTasks → ((i : ℕ) → i < length tasks → (getD tasks i none .base ≤ 48000) × (getD tasks i none .response ≤ maxResponse)) → length (table tasks) ≤ 1024
 table-room none tasks h figures =
     let rows = rw (take-all (length tasks) tasks (le-refl _)) at (task-rows none (length tasks) tasks (le-refl _)) in

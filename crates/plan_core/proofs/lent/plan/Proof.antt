@@ -1,5 +1,5 @@
--- `plan`, by a walk of its code: five calls in a row. To both calls of `copy` the borrowed list is lent again, and an array in a local beside it, for lifetimes that end with the call; `plan_core::held`,
--- `task_figures::no_tasks` and `plan_core::core` take plain values. Of the five their contracts alone are used, and the laws of `plan_core` turn what they say into plan's number and the list that it leaves.
+-- `plan`, by a walk of its code: five calls in a row. To both calls of `copy` the borrowed list is lent again, and an array in a local beside it, for lifetimes that end with the call; `by_value::held`,
+-- `records::no_tasks` and `by_value::core` take plain values. Of the five their contracts alone are used, and the laws of `by_value` turn what they say into plan's number and the list that it leaves.
 use mathlib.Core.Path.{_≡_, refl, ap, subst, sym, _∙_}
 use Prim.Native.Nat.{ℕ, _≤_, _<_, _^_, min}
 use native.Mathlib.Omega.{arith}
