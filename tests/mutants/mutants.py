@@ -2,10 +2,15 @@
 """Changes the product's code in one place at a time, and asks the prover of each.
 
     tests/mutants/run [--crates A,B] [--count COUNT] [--seed SEED] [--jobs JOBS]
+    tests/mutants/run --edits [--crates A,B] [--jobs JOBS]
+    tests/mutants/run --list
 
-First the edits of tests/mutants/edits, which have the form of must-fail edits, then the changes of changes.py: all of them, or COUNT that the seed draws. A
-function is proved from its own body and from the contracts of what it calls, so one check judges changes of several functions of a crate, one in each. It
-begins with a copy of what an unchanged check of the crate left (`rattle check --incremental`). A change that is accepted is checked once more, by itself and
+First the edits of tests/mutants/edits, which have the form of must-fail edits, then the changes of changes.py: all of them, or COUNT that the seed draws. With
+--edits no changes, and the must-fail edits of the crates as well. With --list nothing is checked: it is only seen that each edit fits the code, and that each
+entry of tests/mutants/same is a change of it.
+
+A function is proved from its own body and from the contracts of what it calls, so one check judges changes of several functions of a crate, one in each. It
+begins with a copy of what a check of the unchanged crate left (`rattle check --incremental`). A change that is accepted is checked once more, by itself and
 from nothing.
 
 Printed is how many were refused for a fact, and how many only because the proof no longer fits the code's shape; how many the compiler does not take for a
@@ -221,22 +226,34 @@ def first_error(said):
 
 # ---- what is tried
 
-def product():
-    listed = [line.partition(":")[0].strip() for line in (ROOT / "crates.txt").read_text(encoding="utf-8").split("\n") if ":" in line.partition("#")[0]]
-    return [c for c in listed if c not in NOT_PRODUCT and (ROOT / "crates" / c / "src/lib.rt").exists() and functions(c)]
+def listed():
+    """The libraries of crates.txt."""
+    names = [line.partition(":")[0].strip() for line in (ROOT / "crates.txt").read_text(encoding="utf-8").split("\n") if ":" in line.partition("#")[0]]
+    return [c for c in names if (ROOT / "crates" / c / "src/lib.rt").exists()]
 
 
-def functions(crate):
-    return [p for p in (ROOT / "crates" / crate / "src").glob("**/*.rt") if re.search(r"\bfn \w+", p.read_text(encoding="utf-8"))]
+def is_product(crate):
+    """Whether it is a library of the product with functions in it."""
+    return crate not in NOT_PRODUCT and any(re.search(r"\bfn \w+", p.read_text(encoding="utf-8")) for p in (ROOT / "crates" / crate / "src").glob("**/*.rt"))
+
+
+def listing(fixed, drawn):
+    """What there is to try; 1 if tests/mutants/same names what is no change of the code."""
+    names = {m.name() for m in drawn}
+    gone = [name for name in read_same() if name not in names]
+    for name in gone:
+        print("tests/mutants/same names what is no change of the code:", *name, sep="\n    ")
+    print(f"{len(fixed)} edits and {len(drawn)} changes of {len({(m.crate, m.function) for m in drawn})} functions in {len({m.crate for m in drawn})} crates")
+    return 1 if gone else 0
 
 
 def files_of(crate, known):
     return {str(p.relative_to(ROOT / "crates" / crate)): File(p, known) for p in sorted((ROOT / "crates" / crate / "src").glob("**/*.rt"))}
 
 
-def edits(crate, files):
-    """The edits of tests/mutants/edits. One that changes a place twice is put together by its parts, as rt does it."""
-    for path in sorted((HERE / "edits" / crate).glob("*.edit")):
+def edits(crate, files, folder):
+    """The edits of a folder. One that changes a place twice is put together by its parts, as rt does it."""
+    for path in sorted(folder.glob("*.edit")):
         texts, file, old = {}, "", ""
         for line in path.read_text(encoding="utf-8").split("\n"):
             if line.startswith("file: "):
@@ -320,18 +337,24 @@ def work(desk, todo, lock, told):
 def main():
     ask = argparse.ArgumentParser(description=__doc__, formatter_class=argparse.RawDescriptionHelpFormatter)
     ask.add_argument("--crates", default="")
+    ask.add_argument("--edits", action="store_true")
+    ask.add_argument("--list", action="store_true")
     ask.add_argument("--count", type=int, default=0)
     ask.add_argument("--seed", type=int, default=1)
     ask.add_argument("--jobs", type=int, default=os.cpu_count() or 1)
     given = ask.parse_args()
-    crates = given.crates.split(",") if given.crates else product()
+    crates = given.crates.split(",") if given.crates else [c for c in listed() if given.edits or is_product(c)]
     known, began = known_of(ROOT), time.time()
     of = {c: files_of(c, known) for c in crates}
-    fixed = [m for c in crates for m in edits(c, of[c])]
-    drawn = [m for c in crates for m in changes(c, of[c])]
+    fixed = [m for c in crates for m in edits(c, of[c], HERE / "edits" / c)]
+    if given.edits:
+        fixed += [m for c in crates for m in edits(c, of[c], ROOT / "crates" / c / "must-fail")]
+    drawn = [] if given.edits else [m for c in crates for m in changes(c, of[c])]
+    if given.list:
+        sys.exit(listing(fixed, drawn))
     everything, draw = len(drawn), random.Random(given.seed)
     draw.shuffle(drawn)
-    whole = not given.count and not given.crates
+    whole = not given.count and not given.crates and not given.edits
     if given.count:
         drawn = drawn[:given.count]
     print(f"seed {given.seed}: {len(fixed)} edits, {len(drawn)} of {everything} changes, in {len(crates)} crates", flush=True)
