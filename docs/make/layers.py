@@ -1,12 +1,14 @@
 #!/usr/bin/env python3
 """layers.py [ROOT]: writes docs/layers.svg, the picture of the layers, to standard output. layers.py ROOT list: writes crates/README.md, their list.
 
-The layers are the rows of README.md's table "Layers", and what they use is taken from crates.txt. Before anything is drawn it is checked that
+The layers are the crates, in the order of README.md's table "Layers"; what they use is taken from crates.txt. Before anything is written it is checked that
 
-1. every crate stands once in the table and once in crates.txt;
+1. every crate stands once in the table, once in crates.txt and once in the picture;
 2. each crate uses only crates above it: of earlier rows of the table, or before it in its own row; and only crates before it in crates.txt;
-3. each use of one layer by another, but for those that follow from others and for those of model and lists, is an arrow of the picture that goes up, or a
-   note in the layer; and each arrow and each note is such a use.
+3. each use, but for those that follow from others and for those of model and lists, is an arrow of the picture or a note in the crate's box; each arrow and
+   each note is such a use; and an arrow goes up or level, and through no box;
+4. each line of the walk of one offer is a function of its module, is called in the module of the line that it stands under, and is of the same crate as that
+   line or of one that it uses.
 
 What was counted goes to standard error.
 """
@@ -16,292 +18,418 @@ from pathlib import Path
 from xml.sax.saxutils import escape
 
 ROOT = Path(sys.argv[1] if len(sys.argv) > 1 else ".")
-EVERYWHERE = ("model", "lists")  # layers that nearly every other uses: no arrows
+EVERYWHERE = ("model", "lists")  # nearly every other crate uses them: no arrows
 TOOLCHAIN = ("io", "libc")
 
-# A layer is known by its first crate: its title, its kind, its columns from and to, its row, and how many boxes stand in a line.
-LAYERS = {
-    "model": ("The papers as definitions, with demand 3's statement", "definition", 0, 5, 0, 1),
-    "text": ("Words as bytes", "code", 0, 0, 1, 1),
-    "lists": ("Laws of lists and signed numbers", "theorem", 1, 5, 1, 1),
-    "planning": ("Plan as definitions", "definition", 0, 0, 2, 1),
-    "schedule": ("What a tick means", "theorem", 1, 2, 2, 1),
-    "delay": ("Due times", "theorem", 1, 1, 3, 1),
-    "roundtrip": ("Image laws", "theorem", 2, 2, 3, 1),
-    "offers": ("Call laws", "theorem", 2, 2, 4, 1),
-    "little_endian_reader": ("Numbers in bytes", "code", 3, 5, 2, 2),
-    "image": ("Image as a state, and back", "code", 3, 5, 3, 2),
-    "sound_pipeline": ("State of a sound image", "code", 3, 4, 4, 1),
-    "row_figures": ("Soundness", "code", 5, 5, 4, 2),
-    "questions": ("Questions 1 to 4", "code", 5, 5, 5, 1),
-    "selection": ("Advance", "code", 3, 3, 5, 1),
-    "order_block": ("Quote and offer", "code", 4, 4, 5, 1),
-    "call_results": ("The calls by their parts", "code", 3, 4, 6, 3),
-    "dispatcher": ("The C interface", "code", 3, 4, 7, 1),
-    "claims": ("What a stranger may rely on", "theorem", 1, 2, 5, 1),
-    "report": ("An image explained", "code", 5, 5, 7, 3),
-    "task_rows": ("Plan in code", "code", 0, 0, 3, 1),
-    "plan_words": ("Plan's text", "code", 0, 0, 5, 1),
-    "trial_orders": ("The calls tried, against stored output", "test", 0, 5, 8, 5),
-    "probe": ("For tests and the benchmark; not part of the product", "test", 0, 5, 9, 2),
-}
-ROWS = {"task_rows": 4, "plan_words": 7}  # layers that reach down to a later row
-OPEN = ("dispatcher", "planner", "plan", "inspect")  # what is handed out: the C library, plan over a lent list, the programs
+# Where each box stands: a name fills the places that it is written in.
+GRID = """
+model       model      model       model       model       model
+text        lists      lists       lists       lists       lists
+plan_model  schedule   schedule    legend      legend      legend
+plan_model  delay      image_laws  image       image       image
+plan_core   delay      call_laws   tick        soundness   soundness
+plan_text   claims     claims      tick        admission   image_text
+plan        claims     claims      dispatcher  dispatcher  inspect
+planners    auditor    auditor     firmware    firmware    workshop
+trials      cases      cases       soak        soak        probe
+"""
+COLUMNS = [144, 110, 126, 112, 140, 136]  # widths
+GAPS = [30, 12, 34, 12, 12]  # between the columns
+MARGIN, ROW_GAP = 16, 26
 
-# How each use is shown: "up", with the place along the shared width from 0 to 1; "left" or "right", out at that side and up to the layer; "top", up between the
-# rows and then to the layer; "note".
-ROUTES = {
-    ("planning", "text"): ("up", 0.5),
-    ("task_rows", "planning"): ("up", 0.5),
-    ("plan_words", "task_rows"): ("up", 0.5),
-    ("delay", "schedule"): ("up", 0.5),
-    ("roundtrip", "schedule"): ("up", 0.5),
-    ("offers", "roundtrip"): ("up", 0.5),
-    ("image", "little_endian_reader"): ("up", 0.5),
-    ("sound_pipeline", "image"): ("up", 0.5),
-    ("sound_pipeline", "roundtrip"): ("left", 0.5),
-    ("row_figures", "image"): ("up", 0.5),
-    ("row_figures", "roundtrip"): ("note",),
-    ("questions", "row_figures"): ("up", 0.5),
-    ("selection", "sound_pipeline"): ("up", 0.5),
-    ("order_block", "sound_pipeline"): ("up", 0.4),
-    ("order_block", "row_figures"): ("top", 0.8, 0.12),
-    ("order_block", "offers"): ("note",),
-    ("call_results", "selection"): ("up", 0.5),
-    ("call_results", "order_block"): ("up", 0.5),
-    ("call_results", "questions"): ("right", 0.12),
-    ("dispatcher", "call_results"): ("up", 0.5),
-    ("claims", "planning"): ("left", 0.5),
-    ("claims", "delay"): ("up", 0.5),
-    ("claims", "offers"): ("up", 0.5),
-    ("report", "questions"): ("up", 0.5),
-    ("report", "text"): ("note",),
-    ("trial_orders", "plan_words"): ("up", 0.5),
-    ("trial_orders", "dispatcher"): ("up", 0.5),
-    ("trial_orders", "report"): ("up", 0.5),
-    ("probe", "questions"): ("note",),
-    ("probe", "plan_words"): ("note",),
+# A crate: its kind, and what it is.
+CRATES = {
+    "model": ("definition", "document 01 as definitions: the image, the calls, one tick, the history of a run, and demand 3's statement"),
+    "lists": ("theorem", "laws of lists and signed numbers"),
+    "text": ("code", "words and decimals as bytes"),
+    "plan_model": ("definition", "plan as definitions, from the base of a task to the bytes printed, and what they mean"),
+    "schedule": ("theorem", "what a tick means: who starts, and that each is served in full"),
+    "delay": ("theorem", "due times hold, for every history"),
+    "image_laws": ("theorem", "reading and writing undo each other"),
+    "call_laws": ("theorem", "what a call gives and leaves"),
+    "claims": ("theorem", "what a stranger may rely on, in one record: due times over every list of calls, the next answer, progress, plan's figures"),
+    "image": ("code", "the image's bytes as a state, and back"),
+    "soundness": ("code", "every clause of a sound image; questions 1 to 4"),
+    "admission": ("code", "quote and offer: questions 6 to 12"),
+    "tick": ("code", "advance: the course of one tick"),
+    "dispatcher": ("code", "the C interface: open, quote, offer, advance"),
+    "image_text": ("code", "an image explained"),
+    "inspect": ("code", "the program: an image in, text out"),
+    "plan_core": ("code", "the figures of every task of a lent list"),
+    "plan_text": ("code", "from input bytes to output bytes"),
+    "plan": ("code", "the program: a table in, its figures out"),
+    "trials": ("test", "orders and lines of cases and soak"),
+    "cases": ("test", "program: document 01's counter examples, by calls"),
+    "soak": ("test", "program: 100,000 calls, drawn by a generator"),
+    "probe": ("test", "entries for tests and benchmark"),
+}
+OPEN = ("dispatcher", "plan_core", "plan", "inspect")  # what is handed out: the C library, plan over a lent list, the programs
+BEGIN = {"model": "for the definitions", "claims": "for what is promised", "dispatcher": "for the code"}
+
+# What stands outside: its name, what it does, and the crate that it comes to.
+OUTSIDE = {
+    "planners": ("Planners", "run plan on a standing table", "plan"),
+    "auditor": ("Auditor", "reads claims, docs/READING.md and the contracts", "claims"),
+    "firmware": ("Firmware of a cabinet", "calls what include/dispatcher.h declares", "dispatcher"),
+    "workshop": ("Workshop", "runs inspect on an image", "inspect"),
 }
 
-COLUMNS = [148, 96, 116, 152, 140, 290]  # widths
-GAPS = [34, 14, 34, 14, 22]  # between the columns
-MARGIN, ROW_GAP, TITLE, BOX, SPACE, PAD, WIDEST = 16, 28, 24, 24, 6, 10, 160
-LEGEND = (1, 6)  # its column, and the row that it reaches into
-LEGEND_TEXT = ("An arrow points to a layer that is used.", "Left out are arrows that follow from", "others, and those to model and lists,",
-               "which nearly all layers use. Within a", "layer a crate uses only crates before it.")
-FILL = {"definition": "#dfeaf7", "theorem": "#e3f1e1", "code": "#f0f0f0", "test": "#ffffff"}
-EDGE = {"definition": "#6f93bd", "theorem": "#74a56e", "code": "#9a9a9a", "test": "#9a9a9a"}
-KINDS = {"definition": "definitions", "theorem": "theorems and laws", "code": "code with its contracts"}
+# The uses that do not follow from others: by arrows, or by a note in the box.
+ARROWS = {
+    "plan_model": "text",
+    "plan_core": "plan_model",
+    "plan_text": "plan_core",
+    "plan": "plan_text",
+    "delay": "schedule",
+    "image_laws": "schedule",
+    "call_laws": "image_laws",
+    "claims": "plan_model delay call_laws",
+    "image": "image_laws",
+    "soundness": "image",
+    "admission": "soundness",
+    "tick": "image",
+    "dispatcher": "admission tick",
+    "image_text": "soundness",
+    "inspect": "image_text",
+}
+NOTES = {
+    "admission": "call_laws",
+    "image_text": "text",
+    "trials": "image_text",
+    "cases": "trials dispatcher plan_text",
+    "soak": "trials dispatcher",
+    "probe": "soundness plan_text",
+}
+
+LEGEND = ("An arrow points to what is used. Left out are arrows that follow from others,", "and those to model and lists, which nearly all crates use.")
+FILL = {"definition": "#dfeaf7", "theorem": "#e3f1e1", "code": "#f0f0f0", "open": "#fde7c3", "test": "#ffffff", "outside": "#ffffff"}
+EDGE = {"definition": "#6f93bd", "theorem": "#74a56e", "code": "#9a9a9a", "open": "#c98a1b", "test": "#9a9a9a", "outside": "#444444"}
+KINDS = {"definition": "definitions", "theorem": "theorems and laws", "code": "code with its contracts",
+         "open": "open to a caller", "outside": "stands outside", "test": "not part of the product"}
+STYLES = {"title": (17, 13, "bold", "#111"), "words": (15, 12, "normal", "#222"), "note": (14, 11, "normal", "#555"), "begin": (22, 11, "bold", "#fff")}
+HEADS = (("use", "#555"), ("call", EDGE["open"]))  # of arrows between crates, and from outside
 FONT = 'font-family="Helvetica, Arial, \'Liberation Sans\', \'DejaVu Sans\', sans-serif"'
+
+LIST_HEAD = """# The crates, in the order of reasoning
+
+Each uses only crates above it. [README.md](../README.md#layers) says what each is for, and
+[docs/layers.svg](../docs/layers.svg) shows what uses what. `D` stands for definitions, `T` for theorems and laws, `C`
+for code with its contracts. Beside a crate stand its modules, and for definitions and theorems the files of `specs/`.
+
+| | crate | what it is | in it |
+|---|---|---|---|"""
+
+WALK_HEAD = """
+## One offer, from the C entry to the bytes written
+
+A function is called in the module of the line that it stands under. Five crates, and downward only: `dispatcher`,
+`admission`, `soundness`, `image`, and `model`, which has no function on this way, but the records `Block` and `Order`,
+the limits, and the definition that the whole is proved to meet, `offerCall`. Of the crates of theorems nothing is run.
+"""
+WALK = """
+dispatcher::offer::dispatcher_offer           the C entry: image, order block and reply are lent
+  dispatcher::offer_parts::first_number       questions 1 to 5
+    soundness::questions::number_to           1 to 4: the reply's length, the image's, its mark, and
+      soundness::whole::sound                 whether it is sound, clause by clause
+        image::decode::order_at               a record of the image as an Order
+          image::reader::u32_at               four bytes as a number
+  dispatcher::replies::put_decline            after a "no": its number into the reply, but for 1; the call ends here
+  dispatcher::offer_parts::offered            after "yes" to all five
+    admission::block::block_of                the order block as a Block
+    admission::order_questions::offer         questions 6 to 12
+      image::decode::decode                   the state that the image says, once 6 to 10 pass
+      admission::margins::try_all             each live order with the arrival in its interference set
+        admission::interference::joined_by    its sum and maxima then
+        soundness::row_limits::counted_total  those of the maxima that its delay bound counts, added up
+      admission::decision::decide             11 and 12, by the margins
+    admission::decision::reply_of             number, ticket, tick and margin
+    dispatcher::replies::put_reply            the 16 bytes of the reply
+      image::writer::put_u32                  a number as four bytes
+    admission::acceptance::accept             after number 0 only: the image with the arrival accepted
+      image::encode::put_order                the record of each live order, and the arrival's
+        image::writer::put_eight_halves       eight costs or maxima as 16 bytes
+      image::encode::put_header               one more live order, and the next ticket
+"""
 
 
 def fail(text):
     sys.exit(f"layers.py: {text}")
 
 
+def read(name):
+    return (ROOT / name).read_text(encoding="utf-8") if (ROOT / name).exists() else ""
+
+
 def table():
-    """The rows of README.md's table of layers: each a list of crates."""
-    text = (ROOT / "README.md").read_text(encoding="utf-8")
-    found = re.search(r"^## Layers\n(.*?)(?=^## )", text, re.M | re.S)
+    """The crates of README.md's table of layers, in its order."""
+    found = re.search(r"^## Layers\n(.*?)(?=^## )", read("README.md"), re.M | re.S)
     if not found:
         fail("README.md has no section 'Layers'")
-    rows = [re.findall(r"`(\w+)`", line.split("|")[1]) for line in found.group(1).split("\n") if line.startswith("| `")]
-    if not rows:
+    listed = [c for line in found.group(1).split("\n") if line.startswith("| `") for c in re.findall(r"`(\w+)`", line.split("|")[1])]
+    if not listed:
         fail("README.md's section 'Layers' has no table")
-    return rows
+    return listed
 
 
 def uses():
     """What each crate uses, in the order of crates.txt."""
     found = {}
-    for line in (ROOT / "crates.txt").read_text(encoding="utf-8").split("\n"):
+    for line in read("crates.txt").split("\n"):
         name, colon, rest = line.partition("#")[0].partition(":")
         if colon:
+            if name.strip() in found:
+                fail(f"crates.txt has {name.strip()} twice")
             found[name.strip()] = [c for c in rest.split() if c not in TOOLCHAIN]
     return found
 
 
-def directions(rows, used):
+def directions(listed, used):
     """Each crate uses only crates above it. Gives how many uses there are."""
-    listed = [c for row in rows for c in row]
     for crate in listed:
         if listed.count(crate) > 1:
             fail(f"README.md's table has {crate} twice")
         if crate not in used:
             fail(f"README.md's table has {crate}, which crates.txt has not")
-    count = 0
     for position, (crate, below) in enumerate(used.items()):
         if crate not in listed:
             fail(f"README.md's table has no {crate}")
         for other in below:
-            count += 1
             if other not in used:
                 fail(f"crates.txt: {crate} uses {other}, which is not there")
             if listed.index(other) >= listed.index(crate):
                 fail(f"{crate} uses {other}, which does not stand above it in README.md's table")
             if list(used).index(other) >= position:
                 fail(f"{crate} uses {other}, which does not stand before it in crates.txt")
-    return count
+    return sum(len(below) for below in used.values())
 
 
-def reduced(rows, used):
-    """The uses of layers by layers, without those that follow from others."""
-    layer = {c: row[0] for row in rows for c in row}
-    direct = {row[0]: {layer[o] for c in row for o in used[c]} - {row[0], *EVERYWHERE} for row in rows}
+def pairs(uses_of):
+    return {(a, b) for a, others in uses_of.items() for b in others.split()}
+
+
+def shown(listed, used):
+    """The picture has every crate, and shows every use that does not follow from others, and no other."""
+    for crate in listed:
+        if crate not in CRATES or crate not in GRID.split():
+            fail(f"{crate} has no place in the picture")
+    for name in [*CRATES, *GRID.split()]:
+        if name not in listed and name not in OUTSIDE and name != "legend":
+            fail(f"the picture has {name}, and README.md's table has not")
+    direct = {c: [o for o in used[c] if o not in EVERYWHERE] for c in used}
     below = {}
-    for row in rows:
-        below[row[0]] = set(direct[row[0]])
-        for other in direct[row[0]]:
-            below[row[0]] |= below[other]
-    return {(a, b) for a in direct for b in direct[a] if not any(b in below[c] for c in direct[a])}
+    for crate in used:
+        below[crate] = set(direct[crate]).union(*(below[o] for o in direct[crate]))
+    wanted = {(a, b) for a in direct for b in direct[a] if not any(b in below[c] for c in direct[a])}
+    if pairs(ARROWS) & pairs(NOTES):
+        fail("the picture shows a use by an arrow and by a note")
+    for a, b in sorted(wanted - pairs(ARROWS) - pairs(NOTES)):
+        fail(f"{a} uses {b}, and the picture does not show it")
+    for a, b in sorted((pairs(ARROWS) | pairs(NOTES)) - wanted):
+        fail(f"the picture shows that {a} uses {b}, which it does not or which follows from others")
 
 
-LIST_HEAD = """# The layers, in the order of reasoning
+def walk(used):
+    """Each line of the walk is a function, is called where the line that it stands under is, and goes to no crate above. Gives how many lines there are."""
+    above = []
+    lines = WALK.strip().split("\n")
+    for line in lines:
+        depth, name = (len(line) - len(line.lstrip())) // 2, line.split()[0]
+        crate, module, function = name.split("::")
+        source = read(f"crates/{crate}/src/{module}.rt")
+        if not re.search(rf"\bfn {function}\(", source):
+            fail(f"the walk of one offer has {name}, which is no function")
+        del above[depth:]
+        if above:
+            caller, text = above[-1]
+            if not re.search(rf"(?<!fn )\b{function}\(", text):
+                fail(f"the walk of one offer has {name} under a line that does not call it")
+            if crate != caller and crate not in used[caller]:
+                fail(f"the walk of one offer goes from {caller} to {crate}, which it does not use")
+        above.append((crate, source))
+    return len(lines)
 
-Each layer uses only layers above it, and a crate only crates before it in its layer. [README.md](../README.md#layers)
-says what each crate is for, and [docs/layers.svg](../docs/layers.svg) shows what uses what. `D` stands for definitions,
-`T` for theorems and laws, `C` for code with its contracts.
 
-| | layer | crates |
-|---|---|---|"""
+def contents(crate, kind):
+    """The modules of a crate with their comments, or the files of its statements."""
+    found = []
+    for name, comment in re.findall(r"^pub mod (\w+);(.*)", read(f"crates/{crate}/src/lib.rt"), re.M):
+        said = re.match(rf" // (?:{name}\.rt: )?(.+)", comment)
+        if not said:
+            fail(f"the module {name} of {crate} has no comment in crates/{crate}/src/lib.rt")
+        found.append(f"`{name}`: {said.group(1)}")
+    if kind in ("definition", "theorem"):
+        found.append("`specs/`: " + ", ".join(re.findall(r"^pub mod (\w+)", read(f"crates/{crate}/specs/Lib.antt"), re.M)))
+    return "<br>".join(found)
 
 
-def layer_list(rows):
-    """The layers as a table, for the folder crates/."""
-    letter = {"definition": "D", "theorem": "T", "code": "C", "test": "C"}
+def crate_list(listed):
+    """The crates as a table, for the folder crates/, and the walk of one offer."""
     print(LIST_HEAD)
-    for row in rows:
-        title, kind = LAYERS[row[0]][:2]
-        print(f"| {letter[kind]} | {title} | {', '.join(f'[{c}]({c})' for c in row)} |")
+    for crate in listed:
+        kind, words = CRATES[crate]
+        print(f"| {kind[0].upper() if kind != 'test' else 'C'} | [{crate}]({crate}) | {words} | {contents(crate, kind)} |")
+    print(WALK_HEAD)
+    for line in WALK.strip().split("\n"):
+        print("    " + line)
 
 
 def width_of(text, size):
-    return sum(0.3 if ch in "iljt'., " else 0.85 if ch in "mw" else 0.66 if ch.isupper() else 0.56 for ch in text) * size
+    """About what the widest of the fonts takes."""
+    return sum(0.33 if ch in "iljt'., " else 0.9 if ch in "mw" else 0.7 if ch.isupper() else 0.6 for ch in text) * size
+
+
+def wrapped(text, size, width):
+    """Text in lines of about the same length, as few as the width allows."""
+    def lines_in(most):
+        lines = []
+        for word in text.split():
+            if lines and width_of(f"{lines[-1]} {word}", size) <= most:
+                lines[-1] += f" {word}"
+            else:
+                lines.append(word)
+        return lines
+    if any(width_of(word, size) > width for word in text.split()):
+        fail(f"a word of '{text}' is too long for its box")
+    while width > 0 and len(lines_in(width - 1)) == len(lines_in(width)):
+        width -= 1
+    return lines_in(width)
+
+
+def content(name, width):
+    """What is written in a box, from top to bottom: each line with its style."""
+    if name in OUTSIDE:
+        title, words, note, begin = *OUTSIDE[name][:2], "", ""
+    else:
+        title, words, note, begin = name, CRATES[name][1], NOTES.get(name, ""), BEGIN.get(name, "")
+    found = [(title, "title")] + [(line, "words") for line in wrapped(words, 12, width - 8)]
+    if note:
+        said = ("also uses " if name in ARROWS else "uses ") + ", ".join(note.split())
+        found += [(line, "note") for line in wrapped(said, 11, width - 8)]
+    return found + ([(f"begin here {begin}", "begin")] if begin else [])
+
+
+def height_of(lines):
+    return sum(STYLES[style][0] for _, style in lines)
+
+
+def places(cells, written):
+    """Where each box stands, by the grid: its left, top, width and height; and the whole width and height."""
+    needed = {"legend": 84, **{name: 14 + height_of(lines) for name, lines in written.items()}}
+    heights = [0] * (1 + max(rows[1] for _, rows in cells.values()))
+    for tall in (False, True):  # boxes of one row first
+        for name, (_, (first, last)) in cells.items():
+            if (first < last) == tall:
+                heights[last] += max(0, needed[name] - sum(heights[first:last + 1]) - ROW_GAP * (last - first))
+    left = [MARGIN + sum(COLUMNS[:i]) + sum(GAPS[:i]) for i in range(len(COLUMNS))]
+    top = [MARGIN + sum(heights[:i]) + ROW_GAP * i for i in range(len(heights))]
+    place = {name: (left[a], top[c], left[b] + COLUMNS[b] - left[a], top[d] + heights[d] - top[c]) for name, ((a, b), (c, d)) in cells.items()}
+    return place, left[-1] + COLUMNS[-1] + MARGIN, top[-1] + heights[-1] + MARGIN
+
+
+def cells_of(grid):
+    """The columns and the rows, from and to, that each name of the grid fills."""
+    found = {}
+    rows = [line.split() for line in grid.strip().split("\n")]
+    for y, row in enumerate(rows):
+        for x, name in enumerate(row):
+            found.setdefault(name, []).append((x, y))
+    cells = {}
+    for name, at in found.items():
+        (a, c), (b, d) = at[0], at[-1]
+        if at != [(x, y) for y in range(c, d + 1) for x in range(a, b + 1)]:
+            fail(f"the places of {name} are no rectangle")
+        cells[name] = ((a, b), (c, d))
+    return cells
+
+
+def ways(a, b, cells, place):
+    """The ways that an arrow may go: straight up, level, or out at the side and up between the columns."""
+    ax, ay, aw, ah = place[a]
+    bx, by, bw, bh = place[b]
+    to_left = bx < ax
+    out, into = (ax, bx + bw) if to_left else (ax + aw, bx)
+    low, high = max(ax, bx), min(ax + aw, bx + bw)
+    if low < high:
+        x = (low + high) / 2
+        yield [(x, ay), (x, by + bh)]
+    low, high = max(ay, by), min(ay + ah, by + bh)
+    if low < high:
+        y = (low + high) / 2
+        yield [(out, y), (into, y)]
+    first, last = cells[b][0]
+    if 0 < first and not to_left or last < len(GAPS) and to_left:
+        x = into + GAPS[last] / 2 if to_left else into - GAPS[first - 1] / 2
+        yield [(out, ay + ah / 2), (x, ay + ah / 2), (x, by + bh / 2), (into, by + bh / 2)]
+
+
+def arrow(a, b, cells, place):
+    """The first way that goes through no other box."""
+    if cells[b][1][0] > cells[a][1][0]:
+        fail(f"the arrow from {a} to {b} goes down")
+    for way in ways(a, b, cells, place):
+        if not any(max(x1, x2) > x and min(x1, x2) < x + w and max(y1, y2) > y and min(y1, y2) < y + h
+                   for (x1, y1), (x2, y2) in zip(way, way[1:]) for x, y, w, h in (place[o] for o in place if o not in (a, b))):
+            return "M" + " L".join(f"{x:.1f} {y:.1f}" for x, y in way)
+    fail(f"the arrow from {a} to {b} has no free way")
+
+
+def draw():
+    """The picture, to standard output."""
+    cells = cells_of(GRID)
+    boxes = [name for name in cells if name != "legend"]
+    written = {name: content(name, sum(COLUMNS[a:b + 1]) + sum(GAPS[a:b])) for name, ((a, b), _) in cells.items() if name in boxes}
+    place, width, height = places(cells, written)
+    out = [f'<svg xmlns="http://www.w3.org/2000/svg" width="{width}" height="{height}" viewBox="0 0 {width} {height}" {FONT}>',
+           "<title>The layers of the dispatcher</title>", "<defs>"]
+    for name, colour in HEADS:
+        out.append(f'<marker id="{name}" viewBox="0 0 8 8" refX="7" refY="4" markerWidth="7" markerHeight="7" orient="auto">'
+                   f'<path d="M0 0 L8 4 L0 8 z" fill="{colour}"/></marker>')
+    out += ["</defs>", f'<rect width="{width}" height="{height}" fill="#ffffff"/>']
+
+    def rectangle(x, y, w, h, kind, round_by):
+        dash = ' stroke-dasharray="4 3"' if kind == "test" else ""
+        out.append(f'<rect x="{x}" y="{y}" width="{w}" height="{h}" rx="{round_by}" fill="{FILL[kind]}" stroke="{EDGE[kind]}"{dash}/>')
+
+    def text(x, y, said, size, weight="normal", colour="#222", anchor="middle"):
+        out.append(f'<text x="{x:.1f}" y="{y:.1f}" text-anchor="{anchor}" font-size="{size}" font-weight="{weight}" fill="{colour}">{escape(said)}</text>')
+
+    for name in boxes:
+        x, y, w, h = place[name]
+        kind = "outside" if name in OUTSIDE else "open" if name in OPEN else CRATES[name][0]
+        rectangle(x, y, w, h, kind, 18 if kind == "outside" else 6)
+        at = y + (h - height_of(written[name])) / 2
+        for said, style in written[name]:
+            tall, size, weight, colour = STYLES[style]
+            if style == "begin":
+                wide = width_of(said, size) + 30
+                out.append(f'<rect x="{x + (w - wide) / 2:.1f}" y="{at + 4:.1f}" width="{wide:.1f}" height="18" rx="9" fill="#8a3b12"/>')
+            text(x + w / 2, at + tall - 4.5, said, size, weight, colour)
+            at += tall
+
+    for a, b, head, colour in [(a, b, *HEADS[0]) for a, b in sorted(pairs(ARROWS))] + [(a, OUTSIDE[a][2], *HEADS[1]) for a in OUTSIDE]:
+        out.append(f'<path d="{arrow(a, b, cells, place)}" fill="none" stroke="{colour}" stroke-width="1.4" marker-end="url(#{head})"/>')
+
+    x, y, w, _ = place["legend"]
+    for i, (kind, said) in enumerate(KINDS.items()):
+        rectangle(x + i % 3 * w / 3, y + 6 + i // 3 * 20, 13, 13, kind, 6.5 if kind == "outside" else 3)
+        text(x + i % 3 * w / 3 + 19, y + 17 + i // 3 * 20, said, 11, anchor="start")
+    for i, said in enumerate(LEGEND):
+        text(x, y + 62 + i * 15, said, 11, anchor="start")
+    out.append("</svg>")
+    print("\n".join(out))
 
 
 def main():
-    rows, used = table(), uses()
-    count = directions(rows, used)
-    wanted = reduced(rows, used)
-    firsts = [row[0] for row in rows]
-    for first in firsts:
-        if first not in LAYERS:
-            fail(f"the layer of {first} has no place in the picture")
-    for first in LAYERS:
-        if first not in firsts:
-            fail(f"the picture has a layer that begins with {first}, and README.md's table has none")
-    for a, b in sorted(wanted - set(ROUTES)):
-        fail(f"the layer of {a} uses that of {b}, and the picture does not show it")
-    for a, b in sorted(set(ROUTES) - wanted):
-        fail(f"the picture shows that the layer of {a} uses that of {b}, which it does not or which follows from others")
+    listed, used = table(), uses()
+    count = directions(listed, used)
+    shown(listed, used)
+    steps = walk(used)
     if sys.argv[2:] == ["list"]:
-        layer_list(rows)
+        crate_list(listed)
         return
-    members = {row[0]: row for row in rows}
-    notes = {a: [b for (x, b), route in ROUTES.items() if x == a and route[0] == "note"] for a in LAYERS}
-
-    left = [MARGIN]
-    for width, gap in zip(COLUMNS, GAPS + [0]):
-        left.append(left[-1] + width + gap)
-
-    def lines_in(first):
-        return -(-len(members[first]) // LAYERS[first][5])
-
-    def needed(first):
-        return TITLE + lines_in(first) * (BOX + SPACE) - SPACE + PAD + (16 if notes[first] else 0)
-
-    last = max(spec[4] for spec in LAYERS.values())
-    heights = [0] * (last + 1)
-    for first, spec in LAYERS.items():
-        if first not in ROWS:
-            heights[spec[4]] = max(heights[spec[4]], needed(first))
-    for first, end in ROWS.items():
-        start = LAYERS[first][4]
-        room = sum(heights[start:end + 1]) + ROW_GAP * (end - start)
-        heights[end] += max(0, needed(first) - room)
-    top = [MARGIN]
-    for height in heights:
-        top.append(top[-1] + height + ROW_GAP)
-
-    place = {}
-    for first, (_, _, start, end, row, _) in LAYERS.items():
-        x, y = left[start], top[row]
-        place[first] = (x, y, left[end] + COLUMNS[end] - x, needed(first))
-
-    whole_width = left[len(COLUMNS) - 1] + COLUMNS[-1] + MARGIN
-    whole_height = top[-1] - ROW_GAP + MARGIN
-    out = [f'<svg xmlns="http://www.w3.org/2000/svg" width="{whole_width}" height="{whole_height}" viewBox="0 0 {whole_width} {whole_height}" {FONT}>',
-           "<title>The layers of the dispatcher</title>",
-           '<defs><marker id="head" viewBox="0 0 8 8" refX="7" refY="4" markerWidth="7" markerHeight="7" orient="auto"><path d="M0 0 L8 4 L0 8 z" fill="#555"/>'
-           "</marker></defs>",
-           f'<rect width="{whole_width}" height="{whole_height}" fill="#ffffff"/>']
-
-    arrows = 0
-    for (a, b), route in ROUTES.items():
-        if route[0] == "note":
-            continue
-        ax, ay, aw, ah = place[a]
-        bx, by, bw, bh = place[b]
-        if by + bh > ay:
-            fail(f"the arrow from {a} to {b} does not go up")
-        if route[0] == "up":
-            low, high = max(ax, bx), min(ax + aw, bx + bw)
-            if low >= high:
-                fail(f"the arrow from {a} to {b} has no way straight up")
-            x = low + (high - low) * route[1]
-            path = f"M{x:.1f} {ay} V{by + bh + 1}"
-            for other, (ox, oy, ow, oh) in place.items():
-                if other not in (a, b) and ox < x < ox + ow and by + bh <= oy and oy + oh <= ay:
-                    fail(f"the arrow from {a} to {b} runs through {other}")
-        elif route[0] == "left":
-            gutter = bx + bw + (ax - bx - bw) * 0.5
-            path = f"M{ax} {ay + ah * route[1]:.1f} H{gutter:.1f} V{by + bh / 2:.1f} H{bx + bw + 1}"
-        elif route[0] == "right":
-            path = f"M{ax + aw} {ay + ah / 2:.1f} H{bx + bw * route[1]:.1f} V{by + bh + 1}"
-        else:
-            path = f"M{ax + aw * route[1]:.1f} {ay} V{ay - ROW_GAP / 2} H{bx + bw * route[2]:.1f} V{by + bh + 1}"
-        out.append(f'<path d="{path}" fill="none" stroke="#555" stroke-width="1.3" marker-end="url(#head)"/>')
-        arrows += 1
-
-    boxes = 0
-    for first, (title, kind, _, _, _, per_line) in LAYERS.items():
-        x, y, w, h = place[first]
-        dash = ' stroke-dasharray="4 3"' if kind == "test" else ""
-        out.append(f'<rect x="{x}" y="{y}" width="{w}" height="{h}" rx="6" fill="{FILL[kind]}" stroke="{EDGE[kind]}"{dash}/>')
-        if width_of(title, 12) > w - 8:
-            fail(f"the title '{title}' is too long for its layer")
-        out.append(f'<text x="{x + w / 2:.1f}" y="{y + 16}" text-anchor="middle" font-size="12" font-weight="bold" fill="#222">{escape(title)}</text>')
-        crates = members[first]
-        for line in range(lines_in(first)):
-            here = crates[line * per_line:(line + 1) * per_line]
-            wide = [max(width_of(c, 12) + 18, min((w - 2 * PAD - SPACE * (per_line - 1)) / per_line, WIDEST)) for c in here]
-            room = sum(wide) + SPACE * (len(here) - 1)
-            if room > w - 8:
-                fail(f"the boxes {', '.join(here)} are too wide for their layer")
-            at = x + (w - room) / 2
-            for crate, box in zip(here, wide):
-                by = y + TITLE + line * (BOX + SPACE)
-                colour, stroke = ("#fde7c3", "#c98a1b") if crate in OPEN else ("#ffffff", "#b5b5b5")
-                out.append(f'<rect x="{at:.1f}" y="{by}" width="{box:.1f}" height="{BOX}" rx="4" fill="{colour}" stroke="{stroke}"/>')
-                out.append(f'<text x="{at + box / 2:.1f}" y="{by + 16}" text-anchor="middle" font-size="12" fill="#111">{crate}</text>')
-                at += box + SPACE
-                boxes += 1
-        if notes[first]:
-            drawn = any(a == first and route[0] != "note" for (a, _), route in ROUTES.items())
-            said = ("also uses " if drawn else "uses ") + " and ".join("plan's text" if n == "plan_words" else n for n in notes[first])
-            out.append(f'<text x="{x + w / 2:.1f}" y="{y + h - 7}" text-anchor="middle" font-size="11" fill="#444">{escape(said)}</text>')
-
-    x, y = left[LEGEND[0]], top[LEGEND[1]] - 116
-    for fill, stroke, name in [(FILL[k], EDGE[k], KINDS[k]) for k in KINDS] + [("#fde7c3", "#c98a1b", "open to a caller")]:
-        out.append(f'<rect x="{x}" y="{y - 11}" width="14" height="14" rx="3" fill="{fill}" stroke="{stroke}"/>')
-        out.append(f'<text x="{x + 22}" y="{y}" font-size="12" fill="#222">{name}</text>')
-        y += 22
-    for line in LEGEND_TEXT:
-        y += 18
-        out.append(f'<text x="{x}" y="{y - 8}" font-size="12" fill="#222">{line}</text>')
-    out.append("</svg>")
-    print("\n".join(out))
-    print(f"{boxes} crates in {len(LAYERS)} layers; {count} uses, each of a crate above; {arrows} arrows and {len(ROUTES) - arrows} notes", file=sys.stderr)
+    draw()
+    print(f"{len(listed)} crates; {count} uses, each of a crate above; {len(pairs(ARROWS))} arrows and {len(pairs(NOTES))} uses noted; "
+          f"{steps} functions on the walk of one offer", file=sys.stderr)
 
 
 main()
