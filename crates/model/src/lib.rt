@@ -1,6 +1,6 @@
 // What an image holds of a station and of a live order, what an order block holds, and document 01's limits. The definitions are in specs/, the worked
 // cases in proofs/.
-pub mod limits; // limits.rt: the figures
+pub mod limits; // the figures
 
 // A station's service entry: the ticket in service and its ticks to go; (0, 0) is idle.
 pub struct Service {
