@@ -207,7 +207,7 @@ WHOLE = {
 
 # Sentences of these sections that no definition of demand 3 renders, and where they are kept. Names with a file are checked.
 ELSEWHERE = [
-    ("C: Inside the work", "the calls are in crates/dispatcher, plan in crates/planner, its program in crates/plan"),
+    ("C: Inside the work", "the calls are in crates/dispatcher, plan in crates/plan_core, its program in crates/plan"),
     ("C: Outside it", "outside"),
     ("C: The model is that of", "docs/DECISIONS.md, landing 1, where the sources differ"),
     ("C: Source document 000", "docs/DECISIONS.md, landing 1, where the sources differ"),
@@ -290,7 +290,7 @@ CODE = [
     ("crates/dispatcher/src/offer.rt", "dispatcher_offer", "offerCall"),
     ("crates/dispatcher/src/advance.rt", "dispatcher_advance", "advanceCall"),
 ]
-GIVES = ("crates/call_results/specs/Gives.antt", "Gives")
+GIVES = ("crates/dispatcher/specs/Gives.antt", "Gives")
 
 KEYWORDS = {"let", "in", "record", "where", "λ", "→", "=", ":", "pub", "abbrev", "unfoldable", "unfolding", "data", ".", "infix", "infixl", "infixr"}
 TOKEN = re.compile(r"«[^»]*»|\.«?[^\s(){};,.]+»?|[^\s(){};,]+|[(){};,]")
