@@ -4,11 +4,13 @@
 1. The definitions are found from the sources: beginning with `Demand3`, every name is followed to its declaration, through the `use` lines of its file and
    through structs of code, until only names of the toolchain's libraries are left. A name that is none of these ends the program.
 2. They are put in reading order, file by file, and each stands after all that it uses; that is checked.
-3. Above each stands what it renders of document 01, sentences or words of them that `document-01.md` has. A definition without such words ends the program,
-   and so does an entry of the table below that is no definition of demand 3, or that is no part of document 01.
-4. Every quotation in a comment of these definitions has to stand in `document-01.md`; and every sentence there is rendered by a definition, or the table
-   ELSEWHERE says where it is kept.
-5. The lines in which rt says that the crates are proved are taken from target/log, where `rt check claims` leaves them.
+3. Above each stands what it renders of the papers, sentences or words of them that `document-01.md` and `document-02.md` have. A definition without such words
+   ends the program, and so does an entry of the table below that is no definition of demand 3, or that is no part of the papers.
+4. Every quotation in a comment of the crates of definitions has to stand in the paper that it names: `Document 02, (iii): ".."` in that request, and where
+   nothing is named, in document 01. No quotation is of words that the table OVERRULED has, or of a request that has not landed; tests/level says how many have.
+5. Every sentence of six sections of document 01, and of each request that has landed, is rendered by a definition, or the table ELSEWHERE says where it is
+   kept, or it is overruled.
+6. The lines in which rt says that the crates are proved are taken from target/log, where `rt check claims` leaves them.
 
 What was counted goes to standard error.
 """
@@ -23,9 +25,11 @@ CRATE = "model"
 STATEMENT = ("Demand3", "Demand3")
 PROOF = ("demand-3", "crates/claims/proofs/Demand3.antt")
 PROVED_IN = "claims"
+CRATES_OF_DEFINITIONS = [CRATE, "plan_model"]
 WIDTH = 120
 
-# The sections of document 01, by a letter. A passage is "X: first words", the whole sentence or point that begins so, or "X~ words", words inside one.
+# The sections of document 01, by a letter, and those whose sentences are all accounted for. A request of document 02 goes by its number. A passage is
+# "X: first words", the whole sentence or point that begins so, or "X~ words", words inside one: "iii: Due-in 0 is" is a sentence of request (iii).
 SECTIONS = {
     "C": "The cabinet and its neighbours",
     "T": "The course of one tick",
@@ -33,10 +37,16 @@ SECTIONS = {
     "I": "The image",
     "Q": 'The questions, first "no" decides',
     "R": "The run book",
+    "S": "The standing table",
+    "E": "Counter examples, from a fresh cabinet",
+    "W": "What a stranger may rely on",
+    "F": "Which language form to use",
+    "X": "Traps in this trade",
 }
+ACCOUNTED = "CTDIQR"
 OWN = "No sentence of document 01: a word that it takes for granted."
 
-# File, title, and in the file's order: title, passages of document 01, definitions.
+# File, title, and in the file's order: title, passages of the papers, definitions.
 FILES = [
     ("specs/Limits.antt", "The figures", [
         ("Stations", ["C: A cabinet has N stations"], ["maxStations"]),
@@ -205,9 +215,14 @@ WHOLE = {
     "specs/History.antt": ["R: The book is fed", "R: It holds N", "R: It starts with"],
 }
 
-# Sentences of these sections that no definition of demand 3 renders, and where they are kept. Names with a file are checked.
+# What requests overrule: a passage of document 01 or of an earlier request, and the passage of the request that holds in its place, such as
+#     ("C~ 0 stands for 18,000.", "iii: Due-in 0 is"),
+OVERRULED = [
+]
+
+# Sentences of these sections, and of requests, that no definition of demand 3 renders, and where they are kept. Names with a file are checked.
 ELSEWHERE = [
-    ("C: Inside the work", "the calls are in crates/dispatcher, plan in crates/planner, its program in crates/plan"),
+    ("C: Inside the work", "the calls are in crates/dispatcher, plan in crates/plan_core, its program in crates/plan"),
     ("C: Outside it", "outside"),
     ("C: The model is that of", "docs/DECISIONS.md, landing 1, where the sources differ"),
     ("C: Source document 000", "docs/DECISIONS.md, landing 1, where the sources differ"),
@@ -290,7 +305,7 @@ CODE = [
     ("crates/dispatcher/src/offer.rt", "dispatcher_offer", "offerCall"),
     ("crates/dispatcher/src/advance.rt", "dispatcher_advance", "advanceCall"),
 ]
-GIVES = ("crates/call_results/specs/Gives.antt", "Gives")
+GIVES = ("crates/dispatcher/specs/Gives.antt", "Gives")
 
 KEYWORDS = {"let", "in", "record", "where", "λ", "→", "=", ":", "pub", "abbrev", "unfoldable", "unfolding", "data", ".", "infix", "infixl", "infixr"}
 TOKEN = re.compile(r"«[^»]*»|\.«?[^\s(){};,.]+»?|[^\s(){};,]+|[(){};,]")
@@ -520,86 +535,189 @@ def closure_of(first):
     return found
 
 
-# ---- document 01
+# ---- the papers
 
 
 def plain(text):
     return re.sub(r"\s+", " ", text).strip()
 
 
-def document():
-    """The sentences and points of each section, in order: (mark, text), where the mark is that of a list's point."""
-    sections = {}
-    for part in re.split(r"(?m)^## ", (HERE / "document-01.md").read_text(encoding="utf-8"))[1:]:
-        title, _, body = part.partition("\n")
-        units = []
-        for block in re.split(r"\n\n|\n(?=\d+\. |- )", body.strip()):
-            mark = re.match(r"\d+\. |- ", block)
-            text = plain(block[mark.end():] if mark else block)
-            for n, sentence in enumerate(re.split(r"(?<=[^.]\.) (?=[A-Z0-9])", text)):
-                units.append((mark.group(0) if mark and n == 0 else "", sentence))
-        sections[title] = units
-    return sections
+def sentences(body):
+    """Sentences and points, in order: (mark, text), where the mark is that of a list's point."""
+    units = []
+    for block in re.split(r"\n\n|\n(?=\d+\. |- )", body.strip()):
+        mark = re.match(r"\d+\. |- ", block)
+        text = plain(block[mark.end():] if mark else block).removeprefix("``` ").removesuffix(" ```")
+        for n, sentence in enumerate(re.split(r"(?<=[^.]\.) (?=[A-Z0-9])", text)):
+            units.append((mark.group(0) if mark and n == 0 else "", sentence))
+    return units
 
 
-DOCUMENT = document()
+def papers():
+    """The sections of document 01 by letter and the requests of document 02 by number: the heading that the page gives them, and the sentences."""
+    first, second = ((HERE / name).read_text(encoding="utf-8") for name in ("document-01.md", "document-02.md"))
+    sections = dict(part.split("\n", 1) for part in re.split(r"(?m)^## ", first)[1:])
+    for title in sorted(set(SECTIONS.values()) ^ set(sections)):
+        fail(f"document-01.md or the table SECTIONS has no '{title}'")
+    found = {letter: (title, sentences(sections[title])) for letter, title in SECTIONS.items()}
+    for number, title, body in re.findall(r"(?ms)^\((\w+)\) \*\*(.*?)\.\*\* (.*?)(?=^\(\w+\) \*\*|\Z)", second):
+        found[number] = (f"Document 02, ({number}), {title}", sentences(body))
+    return found
+
+
+PAPERS = papers()
+REQUESTS = [letter for letter in PAPERS if letter not in SECTIONS]
 RENDERED = set()
+GONE = {}  # by sentence: the words of it that are overruled, by which sentence, and by which words of that
+
+
+def landed():
+    """The requests that have landed: as many of the first ones as tests/level says."""
+    level = read("tests/level").strip()
+    if not level.isdigit() or int(level) > len(REQUESTS):
+        fail(f"tests/level is '{level}', and no number of requests")
+    return REQUESTS[:int(level)]
+
+
+LANDED = landed()
+
+
+def source(letter):
+    return f"document 01, '{SECTIONS[letter]}'" if letter in SECTIONS else f"document 02, ({letter})"
+
+
+def ask_landed(number, asking):
+    if number not in LANDED:
+        fail(f"{asking}: request ({number}) of document 02 has not landed")
+
+
+def is_whole(text):
+    """Whether a passage is a whole sentence."""
+    return text.split(" ")[0].endswith(":")
+
+
+def find(text):
+    """The sentence that a passage is taken from, as its section and place there, and the words."""
+    letter, words = (re.fullmatch(r"(\w+)[:~] (.*)", text) or fail(f"'{text}' is no passage")).groups()
+    if letter not in SECTIONS:
+        ask_landed(letter, f"'{text}'")
+    units = PAPERS[letter][1]
+    if is_whole(text):
+        found = [n for n, (_, s) in enumerate(units) if s.startswith(words)]
+        if len(found) != 1:
+            fail(f"{source(letter)}: {len(found)} sentences begin with '{words}'")
+        return (letter, found[0]), units[found[0]][1]
+    found = [n for n, (_, s) in enumerate(units) if words in s]
+    if not found:
+        fail(f"{source(letter)}, has no words '{words}'")
+    return (letter, found[0]), words
+
+
+def held(key, words):
+    """Words of a sentence, with a mark in place of what is overruled in it."""
+    for old, _, _ in GONE.get(key, []):
+        words = words.replace(old, "~")
+    return words
+
+
+def overrule():
+    """Fills GONE from the table OVERRULED."""
+    for old, new in OVERRULED:
+        (by, replacing), (key, words) = find(new), find(old)
+        units = PAPERS[key[0]][1]
+        if by[0] in SECTIONS or key[0] in REQUESTS[REQUESTS.index(by[0]):]:
+            fail(f"OVERRULED: '{new}' is of no request after '{old}'")
+        if sum(s.count(words) for _, s in units) != 1 or words not in held(key, units[key[1]][1]):
+            fail(f"OVERRULED: {source(key[0])}, has '{words}' more than once, or it is overruled twice")
+        GONE.setdefault(key, []).append((words, by, replacing))
+
+
+def marked(key, words, replaced=False):
+    """Words of a sentence as the page shows them: what is overruled is struck out, and where asked for, the words that hold in its place follow."""
+    gone = {old: (by, new) for old, by, new in GONE.get(key, [])}
+
+    def mark(found):
+        by, new = gone[found.group(0)]
+        return f"~~{found.group(0)}~~ [overruled by ({by[0]})" + (f': "{marked(by, new)}"]' if replaced else "]")
+
+    return re.sub("|".join(map(re.escape, gone)), mark, words) if gone else words
 
 
 def passage(text):
-    """One line of quotation for a passage, and the sentence that it is taken from."""
-    letter, sign, words = text[0], text[1], text[2:].strip()
-    title = SECTIONS[letter]
-    units = DOCUMENT.get(title)
-    if units is None:
-        fail(f"document-01.md has no section '{title}'")
-    if sign == ":":
-        found = [(n, m, s) for n, (m, s) in enumerate(units) if s.startswith(words)]
-        if len(found) != 1:
-            fail(f"document 01, '{title}': {len(found)} sentences begin with '{words}'")
-        n, mark, sentence = found[0]
-        return title, (letter, n), (mark if mark != "- " else "") + sentence
-    found = [(n, s) for n, (_, s) in enumerate(units) if words in s]
-    if not found:
-        fail(f"document 01, '{title}', has no words '{words}'")
-    n, sentence = found[0]
+    """The heading of a passage, the sentence that it is taken from, and its words as the page shows them."""
+    key, words = find(text)
+    heading, units = PAPERS[key[0]]
+    mark, sentence = units[key[1]]
+    rest = held(key, words)
+    if rest not in held(key, sentence) or not re.search(r"\w", rest):
+        fail(f"{source(key[0])}: '{words}' is overruled by {', '.join(f'({by[0]})' for _, by, _ in GONE[key])}, and is quoted as if it held")
+    if is_whole(text):
+        return heading, key, (mark if mark != "- " else "") + marked(key, sentence)
     before = "" if sentence.startswith(words) else ".. "
-    after = "" if sentence.rstrip(".").endswith(words) else " .."
-    return title, (letter, n), before + words + after
+    after = "" if sentence.rstrip(".").endswith(words.rstrip(".")) else " .."
+    return heading, key, before + marked(key, words) + after
 
 
 def quoted_lines(said, renders=True):
-    """Passages as lines of a quotation. Sentences that follow each other in document 01 stand in one paragraph."""
+    """Passages as lines of a quotation. Sentences that follow each other in a paper stand in one paragraph."""
     paragraphs = []
     for text in said:
         heading, key, words = passage(text)
         if renders:
             RENDERED.add(key)
         last = paragraphs[-1] if paragraphs else None
-        if last and text[1] == ":" and last[1] == (key[0], key[1] - 1) and not DOCUMENT[heading][key[1]][0]:
+        if last and is_whole(text) and last[1] == (key[0], key[1] - 1) and not PAPERS[key[0]][1][key[1]][0]:
             paragraphs[-1] = (heading, key, f"{last[2]} {words}")
         else:
-            paragraphs.append((heading, key if text[1] == ":" else None, words if last and last[0] == heading else f"**{heading}:** {words}"))
+            paragraphs.append((heading, key if is_whole(text) else None, words if last and last[0] == heading else f"**{heading}:** {words}"))
     lines = []
     for _, _, words in paragraphs:
         lines += [*([">"] if lines else []), *wrapped(words, "> ")]
     return lines + [""] if lines else []
 
 
-def quotations(definitions):
-    """Every quotation in the comments stands in document 01."""
-    text = plain(" ".join(s for units in DOCUMENT.values() for _, s in units) + " " + " ".join(DOCUMENT))
-    text = text.replace('"no"', "'no'")
-    count = 0
-    for name, comment in definitions:
-        said = plain(" ".join(re.sub(r"^(--|//) ?", "", line) for line in comment)).replace('"no"', "'no'")
-        for quote in re.findall(r'"([^"]*)"', said):
-            count += 1
-            for piece in re.split(r"\s*\.\.\s*", quote):
-                piece = piece.strip(" .:;,?")
+def without_no(text):
+    """A quoted "no" ends no quotation."""
+    return text.replace('"no"', "'no'")
+
+
+def words_of(letters):
+    """All words of some sections or requests, and those that are not overruled."""
+    units = [((letter, n), s) for letter in letters for n, (_, s) in enumerate(PAPERS[letter][1])]
+    headings = [PAPERS[letter][0] for letter in letters]
+    return [without_no(" ".join(words + headings)) for words in ([s for _, s in units], [held(key, s) for key, s in units])]
+
+
+def quotations_in_comments():
+    """Each quotation in a comment of the crates of definitions: the file, the request that was named last before it, or none for document 01, and the words."""
+    for crate in CRATES_OF_DEFINITIONS:
+        folder = ROOT / "crates" / crate
+        for file in sorted([*folder.glob("specs/**/*.antt"), *folder.glob("src/*.rt")]):
+            for comment in re.findall(r"(?m)(?:^ *(?:--|//).*\n)+", file.read_text(encoding="utf-8")):
+                request = None
+                said = without_no(plain(re.sub(r"(?m)^ *(--|//)", "", comment)))
+                for found in re.finditer(r'[Dd]ocument 0(?:1|2, \((\w+)\))|"([^"]*)"', said):
+                    if found.group(2) is None:
+                        request = found.group(1)
+                    else:
+                        yield file.relative_to(ROOT), request, found.group(2)
+
+
+def quotations():
+    """Every quotation in a comment stands in its paper and is not overruled. How many there are of each document."""
+    texts = {None: words_of(SECTIONS), **{number: words_of([number]) for number in LANDED}}
+    counts = [0, 0]
+    for file, request, quote in quotations_in_comments():
+        if request:
+            ask_landed(request, f'{file}: "{quote}"')
+        paper = f"document 02, ({request})," if request else "document 01"
+        for piece in re.split(r"\s*\.\.\s*", quote):
+            piece = piece.strip(" .:;,?")
+            for text, what in zip(texts[request], ("does not have", "has, but overruled")):
                 if piece not in text:
-                    fail(f"{name}: the comment quotes '{piece}', which document 01 does not have")
-    return count
+                    fail(f"{file}: a comment quotes '{piece}', which {paper} {what}")
+        counts[1 if request else 0] += 1
+    return counts
 
 
 # ---- the page
@@ -679,7 +797,7 @@ class Reading:
                 fail(f"the table has the definitions of {path} in another order than the file")
             self.sections.append((number, path, title, module, groups))
         for place in sorted(set(self.by_place) - placed):
-            fail(f"{place[1]} ({place[0]}) has no words of document 01 in the table")
+            fail(f"{place[1]} ({place[0]}) has no words of document 01 or 02 in the table")
 
     def order(self):
         """Each definition stands after all that it uses."""
@@ -728,7 +846,7 @@ class Reading:
 
 
 def kept_elsewhere():
-    """The sentences that no definition renders, with where they are kept. A sentence that is neither rendered nor kept ends the program."""
+    """The sentences that no definition renders, with where they are kept. A sentence that is not rendered, kept or overruled ends the program."""
     reasons = {}
     for text, reason in ELSEWHERE:
         _, key, words = passage(text)
@@ -738,11 +856,18 @@ def kept_elsewhere():
             if not re.search(rf"^\s*((unfoldable|abbrev|pub|record|data) )*{re.escape(name)}[ (]", read(file), re.M):
                 fail(f"{name} is not declared in {file}")
         reasons[key] = (words, reason)
-    for letter, title in SECTIONS.items():
-        for n, (_, sentence) in enumerate(DOCUMENT[title]):
-            if (letter, n) not in RENDERED and (letter, n) not in reasons:
-                fail(f"no definition renders this sentence of document 01, and ELSEWHERE does not say where it is kept: {sentence}")
+    for letter in [*ACCOUNTED, *LANDED]:
+        for n, (_, sentence) in enumerate(PAPERS[letter][1]):
+            if (letter, n) not in RENDERED and (letter, n) not in reasons and re.search(r"\w", held((letter, n), sentence)):
+                fail(f"no definition renders this sentence of {source(letter)}, and ELSEWHERE does not say where it is kept: {sentence}")
     return reasons
+
+
+def account(letters, reasons):
+    """How many sentences of some sections or requests are rendered, kept elsewhere, and overruled whole."""
+    keys = [(letter, n) for letter in letters for n in range(len(PAPERS[letter][1]))]
+    rendered, elsewhere = (sum(key in kept for key in keys) for kept in (RENDERED, reasons))
+    return f"{len(keys)}: {rendered} rendered here, {elsewhere} kept elsewhere, {len(keys) - rendered - elsewhere} overruled whole"
 
 
 def library_names(found):
@@ -783,9 +908,21 @@ def code_lines():
 
 
 def elsewhere_lines(reasons):
-    lines = wrapped("Of the six sections of document 01 that are quoted above, these sentences are rendered by no definition of demand 3:") + [""]
-    for words, reason in reasons.values():
-        lines += wrapped(f"\"{words.rstrip('.')}\": {reason}.", "- ", "  ")
+    lines = wrapped("Of the six sections of document 01 that are quoted above, and of the requests of document 02 that have landed, these sentences are"
+                    " rendered by no definition of demand 3:") + [""]
+    for (letter, _), (words, reason) in reasons.items():
+        of = "" if letter in SECTIONS else f"Document 02, ({letter}), "
+        lines += wrapped(f"{of}\"{words.rstrip('.')}\": {reason}.", "- ", "  ")
+    return lines
+
+
+def overruled_lines():
+    if not GONE:
+        return wrapped("None: the requests of document 02 that have landed overrule nothing.")
+    lines = wrapped("What is struck out holds no more; the words of the request that hold in its place stand beside it.") + [""]
+    for key in sorted(GONE, key=lambda key: (list(PAPERS).index(key[0]), key[1])):
+        heading, units = PAPERS[key[0]]
+        lines += wrapped(f"**{heading}:** {marked(key, units[key[1]][1], True)}", "- ", "  ")
     return lines
 
 
@@ -802,8 +939,9 @@ def main():
     found = closure_of(statement)
     if not re.search(rf"^pub {re.escape(PROOF[0])} : {STATEMENT[1]}$", read(PROOF[1]), re.M):
         fail(f"{PROOF[1]} has no {PROOF[0]} : {STATEMENT[1]}")
+    overrule()
     reading = Reading(found)
-    quoted = quotations([(d.name, d.comment) for d in found] + [(module.path, module.opening) for _, _, _, module, _ in reading.sections])
+    quoted = quotations()
     body = reading.lines()
     reasons = kept_elsewhere()
     names = library_names(found)
@@ -814,15 +952,16 @@ def main():
         "lines": sum(1 for d in found for line in d.code if line.strip()),
         "files": len({d.module.path for d in found}),
         "names": len(names),
-        "quoted": quoted,
-        "sentences": sum(len(DOCUMENT[title]) for title in SECTIONS.values()),
-        "rendered": len(RENDERED),
-        "elsewhere": len(reasons),
+        "quoted": f"{quoted[0]} of document 01, {quoted[1]} of document 02",
+        "document 01": account(ACCOUNTED, reasons),
+        "landed": f"{len(LANDED)} of {len(REQUESTS)}",
+        "document 02": account(LANDED, reasons),
         "verdicts": "\n".join(f"{name}: {verdicts[name]}" for name in (CRATE, PROVED_IN)),
         "between": ", ".join(f"`{c}`" for c in crates if c not in (CRATE, PROVED_IN)),
     }
     page = opening_of(values, (f"`{STATEMENT[1]}`", f"`{statement.module.path}`", f"`{PROOF[0]}` (`{PROOF[1]}`)"))
     tail = [("The calls in code", code_lines()), ("Sentences that no definition renders", elsewhere_lines(reasons)),
+            ("Sentences that are overruled", overruled_lines()),
             ("Names of the libraries", library_lines()), ("Index", reading.index())]
     page += ["", "## Contents", ""]
     for number, _, title, _, groups in reading.sections:
@@ -834,8 +973,8 @@ def main():
     for title, lines in numbered:
         page += [f"## {title}", "", *lines, ""]
     sys.stdout.write("\n".join(page).rstrip("\n") + "\n")
-    counts = ("{definitions} definitions, {lines} lines, {files} files; {names} library names; {quoted} quotations in comments, all in document 01; "
-              "{sentences} sentences of document 01: {rendered} rendered, {elsewhere} kept elsewhere").format(**values)
+    counts = ("{definitions} definitions, {lines} lines, {files} files; {names} library names; quotations in comments, all found: {quoted}; sentences of"
+              " document 01, {document 01}; of document 02, {landed} requests, {document 02}").format(**values)
     print(f"{counts}; {len(crates)} crates proved, axioms=0", file=sys.stderr)
 
 
