@@ -20,9 +20,9 @@ pub const VERSION_HIGH_AT: usize = 4;
 
 pub const VERSION: u16 = 1;
 
-pub const VERSION_LOW: u8 = 1;
+pub const VERSION_LOW: u8 = (VERSION % 256) as u8;
 
-pub const VERSION_HIGH: u8 = 0;
+pub const VERSION_HIGH: u8 = (VERSION / 256) as u8;
 
 pub const STATION_COUNT_AT: usize = 5;
 
