@@ -8,29 +8,24 @@ ghost use Rattle.model.specs.Lists.{isZero};
 ghost use Rattle.model.specs.Layout.{blockSize};
 ghost use Rattle.model.specs.Soundness.{costsInRange, zeroBeyond};
 ghost use Rattle.model.specs.Admission.{blockOf, dueOf};
+use image::layout::BLOCK_COSTS_AT;
+use image::layout::BLOCK_DUE_IN_AT;
+use image::layout::BLOCK_RANKS_AT;
 use image::reader::eight_bytes_at;
 use image::reader::eight_halves_at;
 use image::reader::u32_at;
 use model::Block;
 use model::limits::DEFAULT_DUE_IN;
 
-pub const BLOCK_SIZE: usize = 28;
-
-const DUE_IN_AT: usize = 0;
-
-const RANKS_AT: usize = 4;
-
-const COSTS_AT: usize = 12;
-
 // What a block says. Neither the due-in read from the ranks nor ranks read from the costs meet the promise.
 pub fn block_of(order: &[u8]) -> Block
     requires { ⌜ length (now order) ≡ blockSize ⌝ }
     ensures { λ r. ⌜ r ≡ blockOf (now (order .entry)) ⌝ }
 {
-    let ranks = eight_bytes_at(order, RANKS_AT);
-    let costs = eight_halves_at(order, COSTS_AT);
+    let ranks = eight_bytes_at(order, BLOCK_RANKS_AT);
+    let costs = eight_halves_at(order, BLOCK_COSTS_AT);
     Block {
-        due_in: u32_at(order, DUE_IN_AT),
+        due_in: u32_at(order, BLOCK_DUE_IN_AT),
         ranks: ranks,
         costs: costs,
     }

@@ -4,6 +4,9 @@
 // crate `plan_model`.
 ghost use Prim.Native.Nat.{_≤_};
 ghost use lib.ListN.{length};
+use dispatcher::BLOCK_SIZE;
+use dispatcher::IMAGE_SIZE;
+use dispatcher::REPLY_SIZE;
 use dispatcher::advance::dispatcher_advance;
 use dispatcher::offer::dispatcher_offer;
 use dispatcher::offer::dispatcher_quote;
@@ -14,7 +17,7 @@ use trials::block::order_block;
 use trials::case_lines::put_reply_line;
 
 // The line of a call.
-fn say(call: &[u8], reply: &[u8; 16])
+fn say(call: &[u8], reply: &[u8; REPLY_SIZE])
     requires { ⌜ length (now call) ≤ 8 ⌝ }
 {
     let mut out = [0u8; 128];
@@ -22,28 +25,28 @@ fn say(call: &[u8], reply: &[u8; 16])
     io::write_all(1, &out[..end]);
 }
 
-fn open(image: &mut [u8; 2128], stations: u32) {
-    let mut reply = [0u8; 16];
+fn open(image: &mut [u8; IMAGE_SIZE], stations: u32) {
+    let mut reply = [0u8; REPLY_SIZE];
     dispatcher_open(image, stations, &mut reply);
     say(b"open", &reply);
 }
 
-fn quote(image: &[u8; 2128], order: [u8; 28]) {
-    let mut reply = [0u8; 16];
+fn quote(image: &[u8; IMAGE_SIZE], order: [u8; BLOCK_SIZE]) {
+    let mut reply = [0u8; REPLY_SIZE];
     dispatcher_quote(image, &order, &mut reply);
     say(b"quote", &reply);
 }
 
-fn offer(image: &mut [u8; 2128], order: [u8; 28]) {
-    let mut reply = [0u8; 16];
+fn offer(image: &mut [u8; IMAGE_SIZE], order: [u8; BLOCK_SIZE]) {
+    let mut reply = [0u8; REPLY_SIZE];
     dispatcher_offer(image, &order, &mut reply);
     say(b"offer", &reply);
 }
 
-fn advance(image: &mut [u8; 2128], ticks: u32) {
+fn advance(image: &mut [u8; IMAGE_SIZE], ticks: u32) {
     let mut i = 0;
     while i < ticks {
-        let mut reply = [0u8; 16];
+        let mut reply = [0u8; REPLY_SIZE];
         dispatcher_advance(image, &mut reply);
         say(b"advance", &reply);
         i += 1;
@@ -51,14 +54,14 @@ fn advance(image: &mut [u8; 2128], ticks: u32) {
 }
 
 // What the image says.
-fn show(image: &[u8; 2128]) {
+fn show(image: &[u8; IMAGE_SIZE]) {
     let mut out = [0u8; 8192];
     let end = explain(image, &mut out);
     io::write_all(1, &out[..end]);
 }
 
 // "X costs 2, 3 with rank 0; Y costs 1, 2 with rank 5."
-fn x(due_in: u32, rank: u8) -> [u8; 28] {
+fn x(due_in: u32, rank: u8) -> [u8; BLOCK_SIZE] {
     order_block(
         due_in,
         [rank, rank, 0, 0, 0, 0, 0, 0],
@@ -66,7 +69,7 @@ fn x(due_in: u32, rank: u8) -> [u8; 28] {
     )
 }
 
-fn y(due_in: u32, rank: u8) -> [u8; 28] {
+fn y(due_in: u32, rank: u8) -> [u8; BLOCK_SIZE] {
     order_block(
         due_in,
         [rank, rank, 0, 0, 0, 0, 0, 0],
@@ -75,13 +78,13 @@ fn y(due_in: u32, rank: u8) -> [u8; 28] {
 }
 
 // An order for one station.
-fn single(due_in: u32, cost: u16) -> [u8; 28] {
+fn single(due_in: u32, cost: u16) -> [u8; BLOCK_SIZE] {
     order_block(due_in, [0; 8], [cost, 0, 0, 0, 0, 0, 0, 0])
 }
 
 // Two orders at 0, and so many ticks.
-fn two_orders(first: [u8; 28], second: [u8; 28], ticks: u32) {
-    let mut image = [0u8; 2128];
+fn two_orders(first: [u8; BLOCK_SIZE], second: [u8; BLOCK_SIZE], ticks: u32) {
+    let mut image = [0u8; IMAGE_SIZE];
     open(&mut image, 2);
     offer(&mut image, first);
     offer(&mut image, second);
@@ -90,7 +93,7 @@ fn two_orders(first: [u8; 28], second: [u8; 28], ticks: u32) {
 
 // "X at 0 with due-in 20, one advance, then Y with rank 0 and due-in 7: Y starts at 2, not 1."
 fn not_stopped() {
-    let mut image = [0u8; 2128];
+    let mut image = [0u8; IMAGE_SIZE];
     open(&mut image, 2);
     offer(&mut image, x(20, 0));
     advance(&mut image, 1);
@@ -104,7 +107,7 @@ fn not_stopped() {
 
 // "N = 1, cost 4: due-in 4 accepted, 3 gets 11." The decline comes first, and leaves the image alone.
 fn one_station() {
-    let mut image = [0u8; 2128];
+    let mut image = [0u8; IMAGE_SIZE];
     open(&mut image, 1);
     offer(&mut image, single(3, 4));
     offer(&mut image, single(4, 4));
@@ -112,13 +115,13 @@ fn one_station() {
 }
 
 // An order for eight stations.
-fn largest(due_in: u32) -> [u8; 28] {
+fn largest(due_in: u32) -> [u8; BLOCK_SIZE] {
     order_block(due_in, [0; 8], [6000; 8])
 }
 
 // "N = 8, all costs 6,000: delay sum 48,000; due-in 0 gets 11."
 fn largest_costs() {
-    let mut image = [0u8; 2128];
+    let mut image = [0u8; IMAGE_SIZE];
     open(&mut image, 8);
     offer(&mut image, largest(0));
     quote(&image, largest(47999));
@@ -126,7 +129,7 @@ fn largest_costs() {
     offer(&mut image, largest(48000));
 }
 
-fn offers(image: &mut [u8; 2128], order: [u8; 28], times: u32) {
+fn offers(image: &mut [u8; IMAGE_SIZE], order: [u8; BLOCK_SIZE], times: u32) {
     let mut i = 0;
     while i < times {
         offer(image, order);
@@ -136,7 +139,7 @@ fn offers(image: &mut [u8; 2128], order: [u8; 28], times: u32) {
 
 // "N = 1, 32 orders of cost 1, due-in 60,000; the next gets 10; after one advance it is accepted."
 fn thirty_two() {
-    let mut image = [0u8; 2128];
+    let mut image = [0u8; IMAGE_SIZE];
     let order = single(60000, 1);
     open(&mut image, 1);
     offers(&mut image, order, 33);

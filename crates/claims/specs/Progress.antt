@@ -36,7 +36,7 @@ pub record Progressed (run : Run) (order : Entry) (replies : List (List ℕ)) : 
   pub all-done : AllDone run (advances replies)
   pub out : Out (afterAll run (advances replies)) order
 
--- From the end of any list of calls as demand 3 has them: due tick minus clock advances, with replies of 16 bytes, are all done and bring a live order out.
+-- From the end of any list of calls as demand 3 has them: due tick minus clock advances, with replies of their length, are all done and bring a live order out.
 abbrev pub Progress : Type 0
 Progress =
     (n : ℕ) → 1 ≤ n → n ≤ maxStations

@@ -36,7 +36,7 @@ module _ (image : List ℕ) (n : ℕ) (reply : List ℕ) where
   unfolding openNumber firstNo replyQuestion lengthQuestion
   all-yes r h o = rw (eq-eqb (length reply) replySize r, eq-eqb (length image) imageSize h, inside 1 maxStations n o)
 
-  -- The number back to the facts: any but 1 says that the reply has its 16 bytes, and 0 that every question passed.
+  -- The number back to the facts: any but 1 says that the reply has its length, and 0 that every question passed.
   pub heard : (openNumber image n reply ≡ 1 → ⊥) → length reply ≡ replySize
   heard h = go (eqb (length reply) replySize) refl
     where

@@ -6,8 +6,8 @@ use super::offer_parts::offered;
 use super::offer_parts::quoted;
 use super::replies::put_decline;
 
-// Whether an order would be accepted, and what the reply would give. Neither a ticket in the reply nor an order block of 27
-// bytes taken meets the promise.
+// Whether an order would be accepted, and what the reply would give. Neither a ticket in the reply nor an order block that
+// is a byte short taken meets the promise.
 #[no_mangle]
 pub extern "C" fn dispatcher_quote(image: &[u8], order: &[u8], reply: &mut [u8]) -> u32
     ensures { λ r. ⌜ Gives (quoteCall (now (image .entry)) (now (order .entry)) (now (reply .entry))) r (now (image .entry)) (now (reply .exit)) ⌝ }

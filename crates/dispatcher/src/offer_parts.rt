@@ -8,17 +8,17 @@ ghost use Rattle.dispatcher.specs.Gives.{Gives};
 ghost use Rattle.dispatcher.specs.Heard.{Heard};
 use super::replies::put_reply;
 use admission::acceptance::accept;
-use admission::block::BLOCK_SIZE;
 use admission::block::block_of;
 use admission::decision::reply_of;
 use admission::margins::bits;
 use admission::order_questions::offer;
+use image::layout::BLOCK_SIZE;
 use image::layout::NEXT_AT;
 use image::reader::u32_at;
 use soundness::questions::Answer;
 
-// Questions 1 to 5, which are asked of what is lent; the rest is asked of the state and of the order. An order block of 27
-// bytes passed over does not meet the promise.
+// Questions 1 to 5, which are asked of what is lent; the rest is asked of the state and of the order. An order block that is a
+// byte short passed over does not meet the promise.
 pub fn first_number(image: &[u8], order: &[u8], reply: &[u8]) -> u32
     ensures { λ r. ⌜ r ≡ firstNo (replyQuestion (now (reply .entry)) ∷ imageQuestions (now (image .entry)) ++ (blockLengthQuestion (now (order .entry)) ∷ [])) ⌝ }
 {

@@ -11,7 +11,7 @@ use image::layout::REPLY_TICK_AT;
 use image::layout::REPLY_TICKET_AT;
 use image::writer::put_u32;
 
-// All 16 bytes; the margin by its 32 bits. The tick in the place of the ticket does not meet the promise.
+// All its bytes; the margin by its 32 bits. The tick in the place of the ticket does not meet the promise.
 pub fn put_reply(reply: &mut [u8], number: u32, ticket: u32, tick: u32, margin: u32)
     requires { ⌜ length (now reply) ≡ replySize ⌝ }
     ensures { λ _. ⌜ now (reply .exit) ≡ fourBytes number ++ fourBytes ticket ++ fourBytes tick ++ fourBytes margin ⌝ }

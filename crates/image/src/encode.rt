@@ -4,9 +4,9 @@ ghost use mathlib.Core.List.{[], _∷_, _++_, map};
 ghost use Prim.Native.Nat.{_+_, _-_, _*_, _≤_};
 ghost use lib.ListN.{length, take, replicate};
 ghost use Rattle.model.specs.Lists.{concat};
-ghost use Rattle.model.specs.Limits.{maxLive};
+ghost use Rattle.model.specs.Limits.{maxStations, maxLive};
 ghost use Rattle.model.specs.Bytes.{oneByte, twoBytes, fourBytes};
-ghost use Rattle.model.specs.Layout.{imageSize, servicesAt, serviceSize, recordsAt, recordSize, mark, version};
+ghost use Rattle.model.specs.Layout.{imageSize, servicesAt, serviceSize, recordsAt, recordSize, ranksAt, mark, version};
 ghost use Rattle.model.specs.Image.{serviceBytes, orderBytes};
 ghost use Rattle.model.specs.Image as says;
 ghost use Rattle.model.specs.State.{fresh};
@@ -45,7 +45,7 @@ use super::writer::put_u32;
 use model::Order;
 use model::Service;
 
-// The mark `WMC`, version 1, the counts, a zero byte, clock and next ticket.
+// The mark `WMC`, the version, the counts, a zero byte, clock and next ticket.
 pub fn put_header(image: &mut [u8], n: u8, live: u8, clock: u32, next: u32)
     requires { ⌜ length (now image) ≡ imageSize ⌝ }
     ensures { λ _. ⌜ Stored (now (image .entry)) 0 (mark ++ twoBytes version ++ (n ∷ live ∷ 0 ∷ []) ++ fourBytes clock ++ fourBytes next) (now (image .exit)) ⌝ }
@@ -68,7 +68,7 @@ fn put_service(image: &mut [u8], at: usize, e: Service)
 // The entries of the eight stations.
 pub fn put_services(image: &mut [u8], services: [Service; 8])
     requires { ⌜ length (now image) ≡ imageSize ⌝ }
-    ensures { λ _. ⌜ Stored (now (image .entry)) servicesAt (concat (map serviceBytes services)) (now (image .exit)) × (length (concat (map serviceBytes services)) ≡ 64) ⌝ }
+    ensures { λ _. ⌜ Stored (now (image .entry)) servicesAt (concat (map serviceBytes services)) (now (image .exit)) × (length (concat (map serviceBytes services)) ≡ serviceSize * maxStations) ⌝ }
 {
     let mut i: usize = 0;
     while i < 8 {
@@ -79,7 +79,7 @@ pub fn put_services(image: &mut [u8], services: [Service; 8])
 }
 
 fn put_order_head(image: &mut [u8], at: usize, o: Order)
-    requires { ⌜ at + 20 ≤ length (now image) ⌝ }
+    requires { ⌜ at + ranksAt ≤ length (now image) ⌝ }
     ensures { λ _. ⌜ Stored (now (image .entry)) at (fourBytes (o .ticket) ++ fourBytes (o .accepted) ++ fourBytes (o .due) ++ fourBytes (o .sum) ++ oneByte (o .station) ++ (0 ∷ 0 ∷ 0 ∷ [])) (now (image .exit)) ⌝ }
 {
     put_u32(image, at, o.ticket);

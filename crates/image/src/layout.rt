@@ -1,5 +1,5 @@
-// Document 01, "The image", and the reply: the place of every field, counted from 0, as `Layout` of the model has it, named
-// once for all code.
+// Document 01, "The image", and its order block and reply: the place of every field, counted from 0, as `Layout` of the model
+// has it, named once for all code.
 pub const IMAGE_SIZE: usize = 2128;
 
 pub const MARK_W_AT: usize = 0;
@@ -20,9 +20,9 @@ pub const VERSION_HIGH_AT: usize = 4;
 
 pub const VERSION: u16 = 1;
 
-pub const VERSION_LOW: u8 = 1;
+pub const VERSION_LOW: u8 = (VERSION % 256) as u8;
 
-pub const VERSION_HIGH: u8 = 0;
+pub const VERSION_HIGH: u8 = (VERSION / 256) as u8;
 
 pub const STATION_COUNT_AT: usize = 5;
 
@@ -67,6 +67,14 @@ pub const COSTS_AT: usize = 28;
 pub const MAXIMA_AT: usize = 44;
 
 pub const RECORD_ZERO_AT: usize = 60;
+
+pub const BLOCK_SIZE: usize = 28;
+
+pub const BLOCK_DUE_IN_AT: usize = 0;
+
+pub const BLOCK_RANKS_AT: usize = 4;
+
+pub const BLOCK_COSTS_AT: usize = 12;
 
 pub const REPLY_SIZE: usize = 16;
 

@@ -1,10 +1,11 @@
 -- The image of a state of which a part is written anew. What is stored over the header, the entries or the records leaves the other parts.
 use mathlib.Core.Path.{_≡_, refl, sym, ap, _∙_}
 use mathlib.Core.List.{List, [], _++_, append-assoc}
-use Prim.Native.Nat.{ℕ}
+use Prim.Native.Nat.{ℕ, _*_}
 use native.Mathlib.Omega.{arith}
 use lib.ListN.{length, length-append}
-use Rattle.model.specs.Layout.{recordsAt}
+use Rattle.model.specs.Limits.{maxLive}
+use Rattle.model.specs.Layout.{servicesAt, recordsAt, recordSize}
 use Rattle.model.specs.State.{State}
 use Rattle.model.specs.Image.{encode}
 use Rattle.lists.specs.Stored.{Stored}
@@ -16,11 +17,11 @@ use Rattle.image_laws.proofs.Written.{header, entries, records, spare, 
 abbrev pub rear : State → List ℕ
 rear s = records s ++ spare s
 
-pub header-over : (s : State) (r : List ℕ) {v m : List ℕ} → Stored (header s ++ (entries s ++ r)) 0 v m → length v ≡ 16 → m ≡ v ++ (entries s ++ r)
+pub header-over : (s : State) (r : List ℕ) {v m : List ℕ} → Stored (header s ++ (entries s ++ r)) 0 v m → length v ≡ servicesAt → m ≡ v ++ (entries s ++ r)
 header-over s r w h = stored-over [] (header s) (entries s ++ r) w refl (sym h)
 
 module _ (s : State) (f : InRange s) where
-  pub rear-length : length (rear s) ≡ 2048
+  pub rear-length : length (rear s) ≡ recordSize * maxLive
   rear-length =
       omega (arith, ap length (after-entries s), encode-length s f, length-append (header s ++ entries s) (rear s), front-length s f)
 

@@ -45,7 +45,7 @@ unfolding marked
 marked-bytes image e =
     let t = and-both (same (take (length mark) image) mark) (eqb (half image versionAt) version) e in
     let m : take (length mark) image ≡ mark = same-is (take (length mark) image) mark (t .0) in
-    let v : half image versionAt ≡ 1 = eqb-true (half image versionAt) 1 (t .1) in
+    let v : half image versionAt ≡ version = eqb-true (half image versionAt) version (t .1) in
     let at : (i : ℕ) → i < 3 → byte image i ≡ byte mark i = λ i h. sym (getD-take (length mark) image i 0 h) ∙ ap (λ (l : List ℕ). byte l i) m in
     record { first = at 0 (omega arith); second = at 1 (omega arith); third = at 2 (omega arith); version-low = omega arith; version-high = omega arith }
 

@@ -10,7 +10,7 @@ use Rattle.model.specs.Image.{marked, decode}
 use Rattle.model.specs.Soundness.{sound}
 use Rattle.image_laws.specs.InRange.{byteLimit, Below}
 
--- 2,128 bytes, marked and sound, that say the state.
+-- Bytes of an image's length, marked and sound, that say the state.
 pub record SoundImage (image : List ℕ) (s : State) : Type 0 where
   pub whole : length image ≡ imageSize
   pub bytes : Below byteLimit image

@@ -1,12 +1,12 @@
 -- The worked cases. `paperCases`: those of document 01, "Counter examples", that are marked P, but for plan's two. `furtherCases`: what those leave open; the
 -- figures are worked out by hand from document 01, and the second simulator gives the same.
 use mathlib.Core.List.{List, [], _∷_, _++_, map}
-use Prim.Native.Nat.{ℕ, _-_}
+use Prim.Native.Nat.{ℕ, _+_, _*_, _-_}
 use lib.ListN.{take, replicate}
 use lib.IntN.{ℤ, pos, negsuc}
 use Rattle.model.specs.Lists.{concat, upward}
 use Rattle.model.specs.Bytes.{twoBytes, fourBytes}
-use Rattle.model.specs.Layout.{imageSize, replySize}
+use Rattle.model.specs.Layout.{imageSize, version, versionAt, stationCountAt, liveCountAt, headerZeroAt, clockAt, nextAt, servicesAt, serviceSize, servedAt, leftAt, serviceZeroAt, recordsAt, recordSize, ticketAt, acceptedAt, dueAt, sumAt, stationAt, stationZeroAt, ranksAt, costsAt, maximaAt, recordZeroAt, blockSize, replySize}
 use Rattle.model.specs.Questions.{zeros}
 use Rattle.model.specs.Calls.{Call, opening, quoting, offering, advancing}
 use Rattle.model.specs.Demand3.{Lent, Run, started}
@@ -34,6 +34,16 @@ X dueIn rank = order dueIn rank (2 ∷ 3 ∷ [])
 unfoldable pub Y : ℕ → ℕ → List ℕ
 unfolding order
 Y dueIn rank = order dueIn rank (1 ∷ 2 ∷ [])
+
+-- The place of a field of a station's entry, by the station; of the first record, and of the second.
+abbrev inEntry : ℕ → ℕ → ℕ
+inEntry station field = servicesAt + serviceSize * (station - 1) + field
+
+abbrev inFirst : ℕ → ℕ
+inFirst field = recordsAt + field
+
+abbrev inSecond : ℕ → ℕ
+inSecond field = recordsAt + recordSize + field
 
 -- A margin below zero: `minus 1` is -1.
 abbrev pub minus : ℕ → ℤ
@@ -123,18 +133,18 @@ unfoldable pub paperCases : List (List Row)
 unfolding X Y accepts late advances firstTwo lateArrival lateLive ranksReversed startsAtTwo oneStation eightStations
 paperCases = firstTwo ∷ lateArrival ∷ lateLive ∷ ranksReversed ∷ startsAtTwo ∷ oneStation ∷ eightStations ∷ []
 
--- "stored numbers little-endian": image, order block and reply byte by byte. The block has due-in 60,000, ranks 7 and 9, costs 300 and 5,000; a late quote
--- has margin -5,300.
+-- "stored numbers little-endian": image, order block and reply byte by byte, and by figures, so that a wrong place in `Layout` is seen. The block has due-in
+-- 60,000, ranks 7 and 9, costs 300 and 5,000; a late quote has margin -5,300.
 unfoldable pub byteBlock : List ℕ
 byteBlock = 96 ∷ 234 ∷ 0 ∷ 0 ∷ 7 ∷ 9 ∷ replicate 6 0 ++ (44 ∷ 1 ∷ 136 ∷ 19 ∷ replicate 12 0)
 
 unfoldable pub bytesInOrder : List Row
 bytesInOrder =
-    opens 2 ∷ holding 0 (87 ∷ 77 ∷ 67 ∷ 1 ∷ 0 ∷ 2 ∷ 0 ∷ 0 ∷ 0 ∷ 0 ∷ 0 ∷ 0 ∷ 1 ∷ 0 ∷ 0 ∷ 0 ∷ replicate 2112 0)
+    opens 2 ∷ holding 0 (87 ∷ 77 ∷ 67 ∷ 1 ∷ 0 ∷ 2 ∷ 0 ∷ 0 ∷ 0 ∷ 0 ∷ 0 ∷ 0 ∷ 1 ∷ 0 ∷ 0 ∷ 0 ∷ replicate (imageSize - 16) 0)
     ∷ replies (offering byteBlock) 0 (0 ∷ 0 ∷ 0 ∷ 0 ∷ 1 ∷ 0 ∷ 0 ∷ 0 ∷ 180 ∷ 20 ∷ 0 ∷ 0 ∷ 172 ∷ 213 ∷ 0 ∷ 0 ∷ [])
     ∷ holding 0 (87 ∷ 77 ∷ 67 ∷ 1 ∷ 0 ∷ 2 ∷ 1 ∷ 0 ∷ 0 ∷ 0 ∷ 0 ∷ 0 ∷ 2 ∷ 0 ∷ 0 ∷ 0 ∷ replicate 64 0)
     ∷ holding 80 (1 ∷ 0 ∷ 0 ∷ 0 ∷ 0 ∷ 0 ∷ 0 ∷ 0 ∷ 96 ∷ 234 ∷ 0 ∷ 0 ∷ 136 ∷ 19 ∷ 0 ∷ 0 ∷ 1 ∷ 0 ∷ 0 ∷ 0 ∷ 7 ∷ 9 ∷ replicate 6 0)
-    ∷ holding 108 (44 ∷ 1 ∷ 136 ∷ 19 ∷ replicate 12 0) ∷ holding 124 (44 ∷ 1 ∷ 136 ∷ 19 ∷ replicate 2000 0)
+    ∷ holding 108 (44 ∷ 1 ∷ 136 ∷ 19 ∷ replicate 12 0) ∷ holding 124 (44 ∷ 1 ∷ 136 ∷ 19 ∷ replicate (imageSize - 128) 0)
     ∷ replies advancing 0 (replicate 8 0 ++ (1 ∷ replicate 7 0))
     ∷ holding 8 (1 ∷ 0 ∷ 0 ∷ 0 ∷ 2 ∷ 0 ∷ 0 ∷ 0 ∷ 1 ∷ 0 ∷ 0 ∷ 0 ∷ 43 ∷ 1 ∷ 0 ∷ 0 ∷ replicate 56 0)
     ∷ replies (quoting (1 ∷ replicate 11 0 ++ (1 ∷ 0 ∷ 1 ∷ replicate 13 0))) 11 (11 ∷ replicate 11 0 ++ (76 ∷ 235 ∷ 255 ∷ 255 ∷ []))
@@ -192,7 +202,8 @@ outStillCounts =
     opens 2 ∷ accepts (X 20 0) 1 5 (pos 15) ∷ accepts (Y 9 5) 2 7 (pos 2)
     ∷ advances 0 1 ∷ advances 0 2 ∷ advances 0 3 ∷ advances 0 4 ∷ advances 1 5 ∷ stations (2 ∷ []) ∷ inStep
     ∷ late (X 100 0) 12 (minus 1) ∷ quotes (order 100 5 (1 ∷ 1 ∷ [])) 9 (pos 1) ∷ accepts (order 100 5 (2 ∷ 2 ∷ [])) 3 11 (pos 0)
-    ∷ bounds (7 ∷ 9 ∷ 11 ∷ []) ∷ dues (20 ∷ 9 ∷ 105 ∷ []) ∷ inStep ∷ holding 92 (7 ∷ 0 ∷ 0 ∷ 0 ∷ []) ∷ holding 124 (2 ∷ 0 ∷ 3 ∷ 0 ∷ [])
+    ∷ bounds (7 ∷ 9 ∷ 11 ∷ []) ∷ dues (20 ∷ 9 ∷ 105 ∷ []) ∷ inStep ∷ holding (inFirst sumAt) (7 ∷ 0 ∷ 0 ∷ 0 ∷ [])
+    ∷ holding (inFirst maximaAt) (2 ∷ 0 ∷ 3 ∷ 0 ∷ [])
     ∷ advances 0 6 ∷ stations (2 ∷ 1 ∷ []) ∷ serving (3 ∷ 2 ∷ []) (1 ∷ 1 ∷ [])
     ∷ advances 2 7 ∷ stations (2 ∷ []) ∷ serving (0 ∷ 0 ∷ []) (0 ∷ 0 ∷ [])
     ∷ advances 0 8 ∷ stations (2 ∷ []) ∷ serving (0 ∷ 3 ∷ []) (0 ∷ 1 ∷ [])
@@ -242,79 +253,85 @@ oneTick =
 -- done makes it fresh.
 unfoldable pub sizesAndStations : List Row
 sizesAndStations =
-    illSized 15 2128 (opening 2) 1 ∷ illSized 0 2127 (opening 9) 1 ∷ illSized 16 2127 (opening 9) 2 ∷ illSized 16 2129 (opening 2) 2
+    illSized (replySize - 1) imageSize (opening 2) 1 ∷ illSized 0 (imageSize - 1) (opening 9) 1 ∷ illSized replySize (imageSize - 1) (opening 9) 2
+    ∷ illSized replySize (imageSize + 1) (opening 2) 2
     ∷ gives (opening 0) 14 zeros ∷ gives (opening 9) 14 zeros ∷ gives (opening 258) 14 zeros
-    ∷ illSized 16 2127 advancing 2 ∷ gives advancing 3 zeros ∷ gives (offering []) 3 zeros ∷ gives (quoting (X 20 0)) 3 zeros
+    ∷ illSized replySize (imageSize - 1) advancing 2 ∷ gives advancing 3 zeros ∷ gives (offering []) 3 zeros ∷ gives (quoting (X 20 0)) 3 zeros
     ∷ opens 2 ∷ accepts (X 20 0) 1 5 (pos 15)
-    ∷ illSized 15 2128 (opening 3) 1 ∷ illSized 15 2128 (quoting (Y 7 5)) 1 ∷ illSized 15 2128 (offering (Y 7 5)) 1 ∷ illSized 17 2127 advancing 1
-    ∷ illSized 16 2127 (opening 3) 2 ∷ illSized 16 2127 (quoting (Y 7 5)) 2 ∷ illSized 16 2129 (offering (Y 7 5)) 2 ∷ illSized 16 2129 advancing 2
+    ∷ illSized (replySize - 1) imageSize (opening 3) 1 ∷ illSized (replySize - 1) imageSize (quoting (Y 7 5)) 1
+    ∷ illSized (replySize - 1) imageSize (offering (Y 7 5)) 1 ∷ illSized (replySize + 1) (imageSize - 1) advancing 1
+    ∷ illSized replySize (imageSize - 1) (opening 3) 2 ∷ illSized replySize (imageSize - 1) (quoting (Y 7 5)) 2
+    ∷ illSized replySize (imageSize + 1) (offering (Y 7 5)) 2 ∷ illSized replySize (imageSize + 1) advancing 2
     ∷ gives (opening 9) 14 zeros ∷ bounds (5 ∷ []) ∷ inStep
     ∷ opens 8 ∷ outs [] ∷ inStep ∷ advances 0 1
     ∷ []
 
--- Questions 5, 6 and 7: a block of 27 or 29 bytes; a cost of 0 or 6,001, a cost or a rank beyond N; a due-in of 60,001. At the limits it is done. A block
+-- Questions 5, 6 and 7: a block of a byte less or more; a cost of 0 or 6,001, a cost or a rank beyond N; a due-in of 60,001. At the limits it is done. A block
 -- with two faults gets the earlier number, and 4 goes before 5.
 unfoldable pub orderBlocks : List Row
 orderBlocks =
-    opens 2 ∷ declines [] 5 ∷ declines (take 27 (X 20 0)) 5 ∷ declines (X 20 0 ++ (0 ∷ [])) 5
+    opens 2 ∷ declines [] 5 ∷ declines (take (blockSize - 1) (X 20 0)) 5 ∷ declines (X 20 0 ++ (0 ∷ [])) 5
     ∷ declines (order 20 0 (0 ∷ 3 ∷ [])) 6 ∷ declines (order 20 0 (2 ∷ 0 ∷ [])) 6
     ∷ declines (order 60000 0 (6001 ∷ 3 ∷ [])) 6 ∷ declines (order 60000 0 (2 ∷ 6001 ∷ [])) 6
     ∷ declines (block 20 [] (2 ∷ 3 ∷ 1 ∷ [])) 6 ∷ declines (block 20 [] (2 ∷ 3 ∷ 0 ∷ 0 ∷ 0 ∷ 0 ∷ 0 ∷ 1 ∷ [])) 6
     ∷ declines (block 20 (0 ∷ 0 ∷ 1 ∷ []) (2 ∷ 3 ∷ [])) 6 ∷ declines (block 20 (replicate 7 0 ++ (1 ∷ [])) (2 ∷ 3 ∷ [])) 6
     ∷ declines (X 60001 0) 7 ∷ declines (X 4294967295 0) 7
-    ∷ declines (take 27 (order 60001 0 (0 ∷ 3 ∷ []))) 5 ∷ declines (order 60001 0 (0 ∷ 3 ∷ [])) 6 ∷ altered 7 (1 ∷ []) (offering []) 4 zeros
+    ∷ declines (take (blockSize - 1) (order 60001 0 (0 ∷ 3 ∷ []))) 5 ∷ declines (order 60001 0 (0 ∷ 3 ∷ [])) 6
+    ∷ altered headerZeroAt (1 ∷ []) (offering []) 4 zeros
     ∷ quotes (X 60000 0) 5 (pos 59995) ∷ quotes (order 60000 255 (6000 ∷ 6000 ∷ [])) 12000 (pos 48000) ∷ inStep
     ∷ []
 
 -- Question 8: a due tick of 4,000,000,000 is the last. The clock is 3,999,999,980; then 3,999,982,000, for the default. 7 goes before 8, and 8 before 9.
 unfoldable pub lastDueTick : List Row
 lastDueTick =
-    opens 2 ∷ written 8 (236 ∷ 39 ∷ 107 ∷ 238 ∷ [])
-    ∷ declines (X 21 0) 8 ∷ declines (X 0 0) 8 ∷ declines (X 60001 0) 7 ∷ altered 12 (0 ∷ []) (offering (X 21 0)) 8 zeros
-    ∷ accepts (X 20 0) 1 3999999985 (pos 15) ∷ holding 84 (236 ∷ 39 ∷ 107 ∷ 238 ∷ 0 ∷ 40 ∷ 107 ∷ 238 ∷ [])
-    ∷ altered 88 (1 ∷ 40 ∷ 107 ∷ 238 ∷ []) advancing 4 zeros ∷ advances 0 3999999981
-    ∷ opens 2 ∷ written 8 (176 ∷ 225 ∷ 106 ∷ 238 ∷ []) ∷ quotes (X 0 0) 3999982005 (pos 17995)
-    ∷ altered 8 (177 ∷ 225 ∷ 106 ∷ 238 ∷ []) (quoting (X 0 0)) 8 zeros
+    opens 2 ∷ written clockAt (236 ∷ 39 ∷ 107 ∷ 238 ∷ [])
+    ∷ declines (X 21 0) 8 ∷ declines (X 0 0) 8 ∷ declines (X 60001 0) 7 ∷ altered nextAt (0 ∷ []) (offering (X 21 0)) 8 zeros
+    ∷ accepts (X 20 0) 1 3999999985 (pos 15) ∷ holding (inFirst acceptedAt) (236 ∷ 39 ∷ 107 ∷ 238 ∷ 0 ∷ 40 ∷ 107 ∷ 238 ∷ [])
+    ∷ altered (inFirst dueAt) (1 ∷ 40 ∷ 107 ∷ 238 ∷ []) advancing 4 zeros ∷ advances 0 3999999981
+    ∷ opens 2 ∷ written clockAt (176 ∷ 225 ∷ 106 ∷ 238 ∷ []) ∷ quotes (X 0 0) 3999982005 (pos 17995)
+    ∷ altered clockAt (177 ∷ 225 ∷ 106 ∷ 238 ∷ []) (quoting (X 0 0)) 8 zeros
     ∷ []
 
 -- Question 13: the clock reaches 4,000,000,000 and stays there. 4 goes before 13.
 unfoldable pub lastClock : List Row
 lastClock =
-    opens 2 ∷ written 8 (255 ∷ 39 ∷ 107 ∷ 238 ∷ []) ∷ advances 0 4000000000 ∷ gives advancing 13 zeros ∷ holding 8 (0 ∷ 40 ∷ 107 ∷ 238 ∷ [])
-    ∷ declines (X 20 0) 8 ∷ altered 7 (1 ∷ []) advancing 4 zeros ∷ altered 8 (1 ∷ 40 ∷ 107 ∷ 238 ∷ []) advancing 4 zeros
+    opens 2 ∷ written clockAt (255 ∷ 39 ∷ 107 ∷ 238 ∷ []) ∷ advances 0 4000000000 ∷ gives advancing 13 zeros ∷ holding clockAt (0 ∷ 40 ∷ 107 ∷ 238 ∷ [])
+    ∷ declines (X 20 0) 8 ∷ altered headerZeroAt (1 ∷ []) advancing 4 zeros ∷ altered clockAt (1 ∷ 40 ∷ 107 ∷ 238 ∷ []) advancing 4 zeros
     ∷ []
 
 -- Question 9: after ticket 4,294,967,295 none is left, and the image is sound. 9 goes before 11.
 unfoldable pub lastTicketGiven : List Row
 lastTicketGiven =
-    opens 2 ∷ written 12 (254 ∷ 255 ∷ 255 ∷ 255 ∷ []) ∷ accepts (X 20 0) 4294967294 5 (pos 15) ∷ holding 12 (255 ∷ 255 ∷ 255 ∷ 255 ∷ [])
-    ∷ accepts (Y 7 5) 4294967295 7 (pos 0) ∷ holding 12 (0 ∷ 0 ∷ 0 ∷ 0 ∷ []) ∷ declines (X 100 0) 9 ∷ gives (quoting (X 100 0)) 9 zeros ∷ declines (X 1 0) 9
+    opens 2 ∷ written nextAt (254 ∷ 255 ∷ 255 ∷ 255 ∷ []) ∷ accepts (X 20 0) 4294967294 5 (pos 15) ∷ holding nextAt (255 ∷ 255 ∷ 255 ∷ 255 ∷ [])
+    ∷ accepts (Y 7 5) 4294967295 7 (pos 0) ∷ holding nextAt (0 ∷ 0 ∷ 0 ∷ 0 ∷ []) ∷ declines (X 100 0) 9 ∷ gives (quoting (X 100 0)) 9 zeros
+    ∷ declines (X 1 0) 9
     ∷ advances 0 1 ∷ serving (4294967294 ∷ 0 ∷ []) (1 ∷ 0 ∷ [])
     ∷ []
 
 -- A live order's record by hand: accepted at 0 with rank 0; its maxima are its costs.
-unfoldable pub record64 : ℕ → ℕ → ℕ → ℕ → List ℕ → List ℕ
+unfoldable pub recordBytes : ℕ → ℕ → ℕ → ℕ → List ℕ → List ℕ
 unfolding halves
-record64 ticket due sum station costs =
-    fourBytes ticket ++ fourBytes 0 ++ fourBytes due ++ fourBytes sum ++ (station ∷ replicate 11 0) ++ halves costs ++ halves costs ++ replicate 4 0
+recordBytes ticket due sum station costs =
+    fourBytes ticket ++ fourBytes 0 ++ fourBytes due ++ fourBytes sum ++ (station ∷ replicate 11 0)
+    ++ halves costs ++ halves costs ++ replicate (recordSize - recordZeroAt) 0
 
 -- "N = 1, 32 orders of cost 1, due-in 60,000; the next gets 10; after one advance it is accepted." The 32 by hand. 9 goes before 10, and 10 before 11.
 unfoldable pub thirtyTwoLive : List Row
-unfolding upward record64
+unfolding upward recordBytes
 thirtyTwoLive =
-    opens 1 ∷ written 6 (32 ∷ []) ∷ written 12 (33 ∷ []) ∷ written 80 (concat (upward 1 32 (λ t. record64 t 60000 32 1 (1 ∷ []))))
+    opens 1 ∷ written liveCountAt (32 ∷ []) ∷ written nextAt (33 ∷ []) ∷ written recordsAt (concat (upward 1 32 (λ t. recordBytes t 60000 32 1 (1 ∷ []))))
     ∷ declines (order 60000 0 (1 ∷ [])) 10 ∷ declines (order 1 0 (1 ∷ [])) 10
-    ∷ altered 12 (0 ∷ []) (quoting (order 60000 0 (1 ∷ []))) 9 zeros
+    ∷ altered nextAt (0 ∷ []) (quoting (order 60000 0 (1 ∷ []))) 9 zeros
     ∷ advances 1 1 ∷ accepts (order 60000 0 (1 ∷ [])) 33 33 (pos 59967)
     ∷ []
 
 -- N = 8, an order in service at every station, by hand: ticket t at station 9 - t, with one tick to go. All move on at once.
 unfoldable pub allStationsAtOnce : List Row
-unfolding upward record64
+unfolding upward recordBytes
 allStationsAtOnce =
-    opens 8 ∷ written 6 (8 ∷ []) ∷ written 12 (9 ∷ [])
-    ∷ written 16 (concat (upward 1 8 (λ k. fourBytes (9 - k) ++ (1 ∷ 0 ∷ 0 ∷ 0 ∷ []))))
-    ∷ written 80 (concat (upward 1 8 (λ t. record64 t 60 16 (9 - t) (replicate 8 2))))
+    opens 8 ∷ written liveCountAt (8 ∷ []) ∷ written nextAt (9 ∷ [])
+    ∷ written servicesAt (concat (upward 1 8 (λ k. fourBytes (9 - k) ++ (1 ∷ 0 ∷ 0 ∷ 0 ∷ []))))
+    ∷ written recordsAt (concat (upward 1 8 (λ t. recordBytes t 60 16 (9 - t) (replicate 8 2))))
     ∷ advances 1 1 ∷ stations (8 ∷ 7 ∷ 6 ∷ 5 ∷ 4 ∷ 3 ∷ 2 ∷ []) ∷ serving (replicate 8 0) (replicate 8 0)
     ∷ advances 0 2 ∷ stations (8 ∷ 7 ∷ 6 ∷ 5 ∷ 4 ∷ 3 ∷ 2 ∷ []) ∷ serving (0 ∷ 8 ∷ 7 ∷ 6 ∷ 5 ∷ 4 ∷ 3 ∷ 2 ∷ []) (0 ∷ replicate 7 1)
     ∷ []
@@ -330,36 +347,46 @@ unfoldable pub bears : ℕ → List ℕ → Row
 bears place bytes = altered place bytes advancing 0 (record { ticket = 0; tick = 2; margin = pos 0 })
 
 -- Questions 3 and 4: mark, version, and each clause of soundness broken by itself, beside what it just lets through. X and Y are accepted at 0 with due-in
--- 20, and the clock is 1. Their records are at 80 and 144, both with sum 5 and maxima 2 and 3, so that both bounds are 7.
+-- 20, and the clock is 1. Their records are the first and the second, both with sum 5 and maxima 2 and 3, so that both bounds are 7.
 unfoldable pub soundImages : List Row
 soundImages =
     -- mark and version; 3 goes before 4
-    opens 2 ∷ unmarks 0 (88 ∷ []) ∷ unmarks 2 (68 ∷ []) ∷ unmarks 3 (2 ∷ []) ∷ unmarks 4 (1 ∷ []) ∷ unmarks 2 (68 ∷ 1 ∷ 0 ∷ 9 ∷ [])
+    opens 2 ∷ unmarks 0 (88 ∷ []) ∷ unmarks 2 (68 ∷ []) ∷ unmarks versionAt ((version + 1) ∷ []) ∷ unmarks (versionAt + 1) (1 ∷ [])
+    ∷ unmarks 2 (68 ∷ twoBytes version ++ (9 ∷ []))
     -- "N 1 to 8"; "clock at most 4,000,000,000"
-    ∷ spoils 5 (0 ∷ []) ∷ spoils 5 (9 ∷ []) ∷ spoils 8 (1 ∷ 40 ∷ 107 ∷ 238 ∷ [])
+    ∷ spoils stationCountAt (0 ∷ []) ∷ spoils stationCountAt (9 ∷ []) ∷ spoils clockAt (1 ∷ 40 ∷ 107 ∷ 238 ∷ [])
     -- "live tickets at least 1, rising, and below the next ticket where that is not 0"
-    ∷ accepts (X 20 0) 1 5 (pos 15) ∷ spoils 80 (0 ∷ []) ∷ accepts (Y 20 5) 2 7 (pos 13) ∷ advances 0 1
-    ∷ spoils 144 (1 ∷ []) ∷ spoils 144 (3 ∷ []) ∷ spoils 12 (2 ∷ []) ∷ bears 12 (0 ∷ []) ∷ bears 12 (9 ∷ [])
+    ∷ accepts (X 20 0) 1 5 (pos 15) ∷ spoils (inFirst ticketAt) (0 ∷ []) ∷ accepts (Y 20 5) 2 7 (pos 13) ∷ advances 0 1
+    ∷ spoils (inSecond ticketAt) (1 ∷ []) ∷ spoils (inSecond ticketAt) (3 ∷ []) ∷ spoils nextAt (2 ∷ []) ∷ bears nextAt (0 ∷ []) ∷ bears nextAt (9 ∷ [])
     -- "zero bytes and unused records zero"
-    ∷ spoils 7 (1 ∷ []) ∷ spoils 22 (1 ∷ []) ∷ spoils 23 (1 ∷ []) ∷ spoils 79 (1 ∷ [])
-    ∷ spoils 97 (1 ∷ []) ∷ spoils 163 (1 ∷ []) ∷ spoils 140 (1 ∷ []) ∷ spoils 207 (1 ∷ []) ∷ spoils 208 (1 ∷ []) ∷ spoils 2127 (1 ∷ []) ∷ spoils 6 (1 ∷ [])
+    ∷ spoils headerZeroAt (1 ∷ []) ∷ spoils (inEntry 1 serviceZeroAt) (1 ∷ []) ∷ spoils (inEntry 1 serviceZeroAt + 1) (1 ∷ [])
+    ∷ spoils (inEntry 8 serviceZeroAt + 1) (1 ∷ [])
+    ∷ spoils (inFirst stationZeroAt) (1 ∷ []) ∷ spoils (inSecond stationZeroAt + 2) (1 ∷ []) ∷ spoils (inFirst recordZeroAt) (1 ∷ [])
+    ∷ spoils (inSecond recordSize - 1) (1 ∷ []) ∷ spoils (inSecond recordSize) (1 ∷ []) ∷ spoils (imageSize - 1) (1 ∷ []) ∷ spoils liveCountAt (1 ∷ [])
     -- "acceptance at most the clock; due tick 1 to 60,000 after acceptance"
-    ∷ bears 148 (1 ∷ []) ∷ spoils 148 (2 ∷ []) ∷ bears 152 (96 ∷ 234 ∷ []) ∷ spoils 152 (97 ∷ 234 ∷ [])
+    ∷ bears (inSecond acceptedAt) (1 ∷ []) ∷ spoils (inSecond acceptedAt) (2 ∷ []) ∷ bears (inSecond dueAt) (96 ∷ 234 ∷ [])
+    ∷ spoils (inSecond dueAt) (97 ∷ 234 ∷ [])
     -- "station 1 to N; costs in range"
-    ∷ spoils 160 (0 ∷ []) ∷ bears 160 (2 ∷ []) ∷ spoils 160 (3 ∷ []) ∷ spoils 172 (0 ∷ []) ∷ spoils 174 (0 ∷ [])
+    ∷ spoils (inSecond stationAt) (0 ∷ []) ∷ bears (inSecond stationAt) (2 ∷ []) ∷ spoils (inSecond stationAt) (3 ∷ [])
+    ∷ spoils (inSecond costsAt) (0 ∷ []) ∷ spoils (inSecond costsAt + 2) (0 ∷ [])
     -- "each maximum at least the own cost and at most 6,000"
-    ∷ bears 188 (1 ∷ []) ∷ spoils 188 (0 ∷ []) ∷ bears 190 (2 ∷ []) ∷ spoils 190 (1 ∷ []) ∷ bears 190 (112 ∷ 23 ∷ []) ∷ spoils 190 (113 ∷ 23 ∷ [])
+    ∷ bears (inSecond maximaAt) (1 ∷ []) ∷ spoils (inSecond maximaAt) (0 ∷ []) ∷ bears (inSecond maximaAt + 2) (2 ∷ [])
+    ∷ spoils (inSecond maximaAt + 2) (1 ∷ []) ∷ bears (inSecond maximaAt + 2) (112 ∷ 23 ∷ []) ∷ spoils (inSecond maximaAt + 2) (113 ∷ 23 ∷ [])
     -- "the sum at least the own largest cost; the order on time"
-    ∷ bears 156 (2 ∷ []) ∷ spoils 156 (1 ∷ [])
-    ∷ bears 156 (18 ∷ []) ∷ spoils 156 (19 ∷ []) ∷ spoils 156 (255 ∷ 255 ∷ 255 ∷ 255 ∷ []) ∷ bears 152 (7 ∷ []) ∷ spoils 152 (6 ∷ [])
+    ∷ bears (inSecond sumAt) (2 ∷ []) ∷ spoils (inSecond sumAt) (1 ∷ [])
+    ∷ bears (inSecond sumAt) (18 ∷ []) ∷ spoils (inSecond sumAt) (19 ∷ []) ∷ spoils (inSecond sumAt) (255 ∷ 255 ∷ 255 ∷ 255 ∷ [])
+    ∷ bears (inSecond dueAt) (7 ∷ []) ∷ spoils (inSecond dueAt) (6 ∷ [])
     -- "fields beyond N zero"
-    ∷ spoils 166 (1 ∷ []) ∷ spoils 171 (1 ∷ []) ∷ spoils 176 (1 ∷ []) ∷ spoils 186 (1 ∷ [])
-    ∷ spoils 192 (1 ∷ []) ∷ spoils 203 (1 ∷ []) ∷ spoils 32 (1 ∷ []) ∷ spoils 36 (1 ∷ [])
+    ∷ spoils (inSecond ranksAt + 2) (1 ∷ []) ∷ spoils (inSecond ranksAt + 7) (1 ∷ []) ∷ spoils (inSecond costsAt + 4) (1 ∷ [])
+    ∷ spoils (inSecond costsAt + 14) (1 ∷ [])
+    ∷ spoils (inSecond maximaAt + 4) (1 ∷ []) ∷ spoils (inSecond maximaAt + 15) (1 ∷ []) ∷ spoils (inEntry 3 servedAt) (1 ∷ [])
+    ∷ spoils (inEntry 3 leftAt) (1 ∷ [])
     -- "each station idle (0, 0) or serving a live order that is at it, with ticks to go from 1 to its cost there": station 1 serves X, with 1 of 2 to go
-    ∷ spoils 20 (0 ∷ []) ∷ bears 20 (2 ∷ []) ∷ spoils 20 (3 ∷ []) ∷ spoils 21 (1 ∷ [])
-    ∷ spoils 16 (0 ∷ []) ∷ bears 16 (2 ∷ []) ∷ spoils 16 (3 ∷ []) ∷ spoils 24 (2 ∷ 0 ∷ 0 ∷ 0 ∷ 1 ∷ [])
+    ∷ spoils (inEntry 1 leftAt) (0 ∷ []) ∷ bears (inEntry 1 leftAt) (2 ∷ []) ∷ spoils (inEntry 1 leftAt) (3 ∷ []) ∷ spoils (inEntry 1 leftAt + 1) (1 ∷ [])
+    ∷ spoils (inEntry 1 servedAt) (0 ∷ []) ∷ bears (inEntry 1 servedAt) (2 ∷ []) ∷ spoils (inEntry 1 servedAt) (3 ∷ [])
+    ∷ spoils (inEntry 2 servedAt) (2 ∷ 0 ∷ 0 ∷ 0 ∷ 1 ∷ [])
     -- by every call, and no byte is changed
-    ∷ inStep ∷ written 7 (1 ∷ []) ∷ gives advancing 4 zeros ∷ gives (offering (Y 20 5)) 4 zeros ∷ gives (quoting (Y 20 5)) 4 zeros
+    ∷ inStep ∷ written headerZeroAt (1 ∷ []) ∷ gives advancing 4 zeros ∷ gives (offering (Y 20 5)) 4 zeros ∷ gives (quoting (Y 20 5)) 4 zeros
     ∷ []
 
 -- The further cases: of the course of a tick, of offers, of images.
@@ -378,7 +405,7 @@ imageCases = bytesInOrder ∷ sizesAndStations ∷ lastClock ∷ soundImages ∷
 unfoldable pub furtherCases : List (List Row)
 furtherCases = tickCases ++ offerCases ++ imageCases
 
--- Lists of calls as demand 3 has them, from a done open with N = 2. "X, due-in 20, at 0", an open with a reply of 15 bytes, an open with N = 9, a late
+-- Lists of calls as demand 3 has them, from a done open with N = 2. "X, due-in 20, at 0", an open with a reply of a byte less, an open with N = 9, a late
 -- quote, "then Y at 0, due-in 7", and seven advances: "X is out at 5, Y at 7."
 unfoldable pub listStart : Run
 listStart = started (replicate imageSize 165) 2 (lent replySize)
@@ -388,9 +415,10 @@ withReply size call = record { call = call; reply = lent size }
 
 unfoldable pub mixedCalls : List Lent
 mixedCalls =
-    withReply 16 (offering (X 20 0)) ∷ withReply 15 (opening 3) ∷ withReply 16 (opening 9) ∷ withReply 16 (quoting (Y 6 5)) ∷ withReply 16 (offering (Y 7 5))
-    ∷ replicate 7 (withReply 16 advancing)
+    withReply replySize (offering (X 20 0)) ∷ withReply (replySize - 1) (opening 3) ∷ withReply replySize (opening 9)
+    ∷ withReply replySize (quoting (Y 6 5)) ∷ withReply replySize (offering (Y 7 5))
+    ∷ replicate 7 (withReply replySize advancing)
 
 -- "as the first two but X rank 5, Y rank 0: Y out at 3, X at 6."
 unfoldable pub reversedCalls : List Lent
-reversedCalls = withReply 16 (offering (X 20 5)) ∷ withReply 16 (offering (Y 7 0)) ∷ replicate 6 (withReply 16 advancing)
+reversedCalls = withReply replySize (offering (X 20 5)) ∷ withReply replySize (offering (Y 7 0)) ∷ replicate 6 (withReply replySize advancing)

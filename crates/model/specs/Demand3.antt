@@ -74,7 +74,7 @@ pub record Kept (image : List ℕ) (n : ℕ) (reply : List ℕ) (calls : List Le
   pub orders : (order : Entry) → List·Memᴰ order (afterAll (started image n reply) calls .history .orders) → InTime (afterAll (started image n reply) calls) order
   pub replies : AllAgree (started image n reply) calls
 
--- For any N from 1 to 8, any image buffer of 2,128 bytes and any reply of 16 lent to the opening call, and any list of calls after it.
+-- For any N from 1 to 8, any image buffer and any reply of their lengths lent to the opening call, and any list of calls after it.
 abbrev pub Demand3 : Type 0
 Demand3 =
     (n : ℕ) → 1 ≤ n → n ≤ maxStations

@@ -19,14 +19,14 @@ marked image = same (take (length mark) image) mark && eqb (half image versionAt
 abbrev pub liveCount : List ℕ → ℕ
 liveCount image = byte image liveCountAt
 
--- A station entry of 8 bytes.
+-- A station entry.
 unfoldable pub serviceOf : List ℕ → Service
 serviceOf s = record { ticket = word s servedAt; left = half s leftAt }
 
 unfoldable pub serviceBytes : Service → List ℕ
 serviceBytes e = fourBytes (e .ticket) ++ twoBytes (e .left) ++ (0 ∷ 0 ∷ [])
 
--- A record of 64 bytes.
+-- A record.
 unfoldable pub orderOf : List ℕ → Order
 orderOf s =
     record {

@@ -26,7 +26,7 @@ use Rattle.model.specs.Demand3.{Run}
 pub data Row : Type 0 where
   -- Open is done. The history begins anew.
   opens : (n : ℕ) → Row
-  -- A call with a reply of 16 bytes: its number, and what the reply holds beside it. After another number than 0, or a quote, the image is as it was.
+  -- A call with a reply of its length: its number, and what the reply holds beside it. After another number than 0, or a quote, the image is as it was.
   gives : (call : Call) (number : ℕ) (answer : Answer) → Row
   -- The same, with the reply as bytes.
   replies : (call : Call) (number : ℕ) (reply : List ℕ) → Row
@@ -113,7 +113,7 @@ holdsFrom run (bounds expected ∷ rows) = same (map (entryBound (run .history))
 holdsFrom run (dues expected ∷ rows) = same (map entryDue (run .history .orders)) expected && holdsFrom run rows
 holdsFrom run (inStep ∷ rows) = same (run .image) (encode (stateOf (run .history))) && holdsFrom run rows
 
--- From a buffer of 2,128 bytes that no call has written yet.
+-- From a buffer of an image's length that no call has written yet.
 unfoldable pub holds : List Row → Bool
 unfolding holdsFrom
 holds rows = holdsFrom (record { image = replicate imageSize 165; history = begun 0 }) rows

@@ -97,17 +97,17 @@ module _ (n : ℕ) where
           omega (arith, next-most S)
       twice (suc r) from below =
           let S = next n rest base (suc r) in
-          let all-costs : total (map (largestCost n) rest) ≤ 60000 = omega (arith, shares-least (suc r) rest (omega arith) ranged) in
-          let small : S ≤ 60000 = omega arith in
-          let product : S * total (map (largestCost n) rest) ≤ 60000 * 60000 = mul-le-mul small all-costs in
+          let all-costs : total (map (largestCost n) rest) ≤ maxPeriod = omega (arith, shares-least (suc r) rest (omega arith) ranged) in
+          let small : S ≤ maxPeriod = omega arith in
+          let product : S * total (map (largestCost n) rest) ≤ maxPeriod * maxPeriod = mul-le-mul small all-costs in
           omega (arith, next-most S)
 
       at-most : (k : ℕ) → ((j : ℕ) → j < k → ends (next n rest base) deadline (sequence (next n rest base) base j) ≡ false) → sequence (next n rest base) base k ≤ maxResponse
       unfolding sequence
       at-most zero before = omega arith
       at-most (suc zero) before =
-          let all-costs : total (map (largestCost n) rest) ≤ 186000 = omega (arith, costs-most rest ranged, mul-le-mul-right maxCost few) in
-          let product : base * total (map (largestCost n) rest) ≤ 48000 * 186000 = mul-le-mul low all-costs in
+          let all-costs : total (map (largestCost n) rest) ≤ 31 * maxCost = omega (arith, costs-most rest ranged, mul-le-mul-right maxCost few) in
+          let product : base * total (map (largestCost n) rest) ≤ maxBase * (31 * maxCost) = mul-le-mul low all-costs in
           omega (arith, next-most base)
       at-most (suc (suc k)) before =
           let f = next n rest base in

@@ -9,7 +9,9 @@ use dispatcher::offer::dispatcher_offer;
 use dispatcher::offer::dispatcher_quote;
 use dispatcher::open::dispatcher_open;
 use image::layout::CLOCK_AT;
+use image::layout::IMAGE_SIZE;
 use image::layout::LIVE_COUNT_AT;
+use image::layout::REPLY_SIZE;
 use image::layout::REPLY_TICKET_AT;
 use image::reader::u32_at;
 use trials::draw::draw_order;
@@ -35,7 +37,7 @@ fn pace(run: Run) -> u32 {
     14
 }
 
-fn advance(image: &mut [u8; 2128], reply: &mut [u8; 16], run: Run, seed: u32) -> Run {
+fn advance(image: &mut [u8; IMAGE_SIZE], reply: &mut [u8; REPLY_SIZE], run: Run, seed: u32) -> Run {
     let number = dispatcher_advance(image, reply);
     let ticket = u32_at(reply, REPLY_TICKET_AT);
     let digest = fold_all(fold_all(run.digest, reply), image);
@@ -49,7 +51,13 @@ fn advance(image: &mut [u8; 2128], reply: &mut [u8; 16], run: Run, seed: u32) ->
     )
 }
 
-fn quote(image: &mut [u8; 2128], reply: &mut [u8; 16], n: usize, run: Run, seed: u32) -> Run
+fn quote(
+    image: &mut [u8; IMAGE_SIZE],
+    reply: &mut [u8; REPLY_SIZE],
+    n: usize,
+    run: Run,
+    seed: u32,
+) -> Run
     requires { ⌜ (1 ≤ n) × (n ≤ maxStations) ⌝ }
 {
     let order = draw_order(seed, n);
@@ -58,7 +66,13 @@ fn quote(image: &mut [u8; 2128], reply: &mut [u8; 16], n: usize, run: Run, seed:
     count(run, seed, false, false, number, digest)
 }
 
-fn offer(image: &mut [u8; 2128], reply: &mut [u8; 16], n: usize, run: Run, seed: u32) -> Run
+fn offer(
+    image: &mut [u8; IMAGE_SIZE],
+    reply: &mut [u8; REPLY_SIZE],
+    n: usize,
+    run: Run,
+    seed: u32,
+) -> Run
     requires { ⌜ (1 ≤ n) × (n ≤ maxStations) ⌝ }
 {
     let order = draw_order(seed, n);
@@ -68,7 +82,7 @@ fn offer(image: &mut [u8; 2128], reply: &mut [u8; 16], n: usize, run: Run, seed:
 }
 
 // One call: the generator draws which, and then its order.
-fn call(image: &mut [u8; 2128], reply: &mut [u8; 16], n: usize, run: Run) -> Run
+fn call(image: &mut [u8; IMAGE_SIZE], reply: &mut [u8; REPLY_SIZE], n: usize, run: Run) -> Run
     requires { ⌜ (1 ≤ n) × (n ≤ maxStations) ⌝ }
 {
     let drawn = step(run.seed);
@@ -85,7 +99,7 @@ fn call(image: &mut [u8; 2128], reply: &mut [u8; 16], n: usize, run: Run) -> Run
 }
 
 // The calls of one row.
-fn stretch(image: &mut [u8; 2128], reply: &mut [u8; 16], n: usize, from: Run) -> Run
+fn stretch(image: &mut [u8; IMAGE_SIZE], reply: &mut [u8; REPLY_SIZE], n: usize, from: Run) -> Run
     requires { ⌜ (1 ≤ n) × (n ≤ maxStations) ⌝ }
 {
     let mut run = from;
@@ -101,7 +115,7 @@ fn wide(x: u8) -> u32 {
     x as u32
 }
 
-fn print(image: &[u8; 2128], n: usize, run: Run)
+fn print(image: &[u8; IMAGE_SIZE], n: usize, run: Run)
     requires { ⌜ n ≤ maxStations ⌝ }
 {
     let clock = u32_at(image, CLOCK_AT);
@@ -116,8 +130,8 @@ fn print(image: &[u8; 2128], n: usize, run: Run)
 fn pipeline(n: usize)
     requires { ⌜ (1 ≤ n) × (n ≤ maxStations) ⌝ }
 {
-    let mut image = [0u8; 2128];
-    let mut reply = [0u8; 16];
+    let mut image = [0u8; IMAGE_SIZE];
+    let mut reply = [0u8; REPLY_SIZE];
     dispatcher_open(&mut image, n as u32, &mut reply);
     let mut run = trials::soak_rows::start(n as u32);
     let mut row = 0;

@@ -74,7 +74,7 @@ pub fn image_answer(image: &[u8]) -> Answer
 }
 
 // Questions 1 to 4, of any bytes: what every call on an image asks first. Neither 2 beside a reply of the wrong length nor 1
-// beside one of 16 bytes meets the promise.
+// beside one of the right length meets the promise.
 pub fn answer_to(image: &[u8], reply: &[u8]) -> Answer
     ensures { λ r. ⌜ numberOf r ≡ firstNo (replyQuestion (now (reply .entry)) ∷ imageQuestions (now (image .entry))) ⌝ }
 {

@@ -65,7 +65,7 @@ fn records_zero(image: &[u8], live: usize) -> bool
     holds
 }
 
-// "zero bytes .. zero". Neither an image with a 1 in header byte 7 let through, nor one refused for a byte after the
+// "zero bytes .. zero". Neither an image with a 1 in the header's zero byte let through, nor one refused for a byte after the
 // live records, meets the promise.
 pub fn zero_bytes_zero(image: &[u8], live: usize) -> bool
     requires { ⌜ (length (now image) ≡ imageSize) × (live ≡ liveCount (now image)) × (live ≤ maxLive) ⌝ }

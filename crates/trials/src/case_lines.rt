@@ -6,6 +6,7 @@ ghost use Rattle.lists.specs.Stored.{Put};
 ghost use Rattle.trials.specs.CaseLines.{signed, replyFigures, replyMargin, replyLine};
 use image::layout::REPLY_MARGIN_AT;
 use image::layout::REPLY_NUMBER_AT;
+use image::layout::REPLY_SIZE;
 use image::layout::REPLY_TICK_AT;
 use image::layout::REPLY_TICKET_AT;
 use image::reader::u32_at;
@@ -45,7 +46,7 @@ fn put_margin(out: &mut [u8], at: usize, bits: u32) -> usize
 
 // The line of a call, and how many bytes of the buffer it takes. Ruled out: the ticket where the tick stands; a line that no
 // line feed ends.
-pub fn put_reply_line(out: &mut [u8; 128], call: &[u8], reply: &[u8; 16]) -> usize
+pub fn put_reply_line(out: &mut [u8; 128], call: &[u8], reply: &[u8; REPLY_SIZE]) -> usize
     requires { ⌜ length (now call) ≤ 8 ⌝ }
     ensures { λ r. ⌜ Put (now (out .entry)) 0 (replyLine (now (call .entry)) (now (reply .entry))) r (now (out .exit)) ⌝ }
     ensures within { λ r. ⌜ r ≤ 128 ⌝ }

@@ -4,6 +4,7 @@ ghost use Prim.Native.Nat.{_<_, _≤_};
 ghost use Rattle.model.specs.Limits.{maxStations};
 ghost use Rattle.trials.specs.Draw.{stepped, apart, picked, cost, costs, rank, ranks, mostCost, dueIn, drawnFor, drawnBlock};
 use super::block::order_block;
+use image::layout::BLOCK_SIZE;
 
 fn wide(x: u32) -> u64
     ensures { λ r. ⌜ (r ≡ x) × (r < 4294967296) ⌝ }
@@ -132,7 +133,7 @@ fn drawn_for(v: u32, n: usize) -> usize
 
 // The order block that a seed draws for a cabinet of n stations. Ruled out: the ranks drawn where the costs are, so that they
 // rise together; costs for another number of stations than ranks.
-pub fn draw_order(s: u32, n: usize) -> [u8; 28]
+pub fn draw_order(s: u32, n: usize) -> [u8; BLOCK_SIZE]
     requires { ⌜ (1 ≤ n) × (n ≤ maxStations) ⌝ }
     ensures { λ r. ⌜ r ≡ drawnBlock s n ⌝ }
 {

@@ -10,7 +10,7 @@ use Rattle.model.specs.Limits.{maxLive}
 use Rattle.model.specs.Lists.{concat, upward, largest}
 use Rattle.model.specs.Bytes.{twoBytes, fourBytes}
 use Rattle.model.specs.State.{State}
-use Rattle.model.specs.Layout.{mark, version, recordPart}
+use Rattle.model.specs.Layout.{mark, version, recordsAt, recordSize, recordPart}
 use Rattle.model.specs.Image.{liveCount, orderOf, orderBytes, ordersOf, decode, encode}
 use Rattle.model.specs.Admission.{arrival, joinedBy, joinedLive, accept}
 use Rattle.lists.specs.Stored.{Stored}
@@ -37,8 +37,8 @@ pub joined-rows : (b : Block) (f : ℕ → Order) (n : ℕ) → upward 0 n (λ i
 joined-rows b f n = sym (ap (map orderBytes) (upward-map (joinedBy b) 0 n f) ∙ upward-map orderBytes 0 n (λ i. joinedBy b (f i)))
 
 -- While the first i records are written the one after them is as it was.
-pub still : {f : ℕ → List ℕ} {l m : List ℕ} {i : ℕ} → Rows f 64 l 80 i m → 80 + 64 * i ≤ length l → recordPart m i ≡ recordPart l i
-still {i = i} r h = stored-part (r .stored) (omega (arith, r .long)) (80 + 64 * i) 64 (omega (arith, r .long))
+pub still : {f : ℕ → List ℕ} {l m : List ℕ} {i : ℕ} → Rows f recordSize l recordsAt i m → recordsAt + recordSize * i ≤ length l → recordPart m i ≡ recordPart l i
+still {i = i} r h = stored-part (r .stored) (omega (arith, r .long)) (recordsAt + recordSize * i) recordSize (omega (arith, r .long))
 
 module _ {image : List ℕ} {b : Block} {a : Order} (ok : Acceptable image b a) (bytes : Below byteLimit image) where
   live : length (decode image .orders) ≡ liveCount image
@@ -65,23 +65,23 @@ module _ {image : List ℕ} {b : Block} {a : Order} (ok : Acceptable image b a) 
       rw (getD-upward (liveCount image) (λ j. orderOf (recordPart image j)) i past h) at fits
 
   spare : List ℕ
-  spare = replicate (64 * (32 - (liveCount image + 1))) 0
+  spare = replicate (recordSize * (maxLive - (liveCount image + 1))) 0
 
   orders : List ℕ
   orders = concat (map orderBytes (decode image .orders))
 
   -- The records: those of the live orders, the first unused one, and the others.
-  divided : rear (decode image) ≡ (orders ++ replicate 64 0) ++ spare
+  divided : rear (decode image) ≡ (orders ++ replicate recordSize 0) ++ spare
   unfolding orders spare
   divided =
-      let e : 64 * (32 - length (decode image .orders)) ≡ 64 + 64 * (32 - (liveCount image + 1)) = omega (arith, live, room) in
-      rw (e, ← replicate-append-replicate {A = ℕ} 64 (64 * (32 - (liveCount image + 1))) 0) (sym (append-assoc (concat (map orderBytes (decode image .orders))) (replicate 64 0) (replicate (64 * (32 - (liveCount image + 1))) 0)))
+      let e : recordSize * (maxLive - length (decode image .orders)) ≡ recordSize + recordSize * (maxLive - (liveCount image + 1)) = omega (arith, live, room) in
+      rw (e, ← replicate-append-replicate {A = ℕ} recordSize (recordSize * (maxLive - (liveCount image + 1))) 0) (sym (append-assoc (concat (map orderBytes (decode image .orders))) (replicate recordSize 0) (replicate (recordSize * (maxLive - (liveCount image + 1))) 0)))
 
-  written-long : length (orders ++ replicate 64 0) ≡ 64 * liveCount image + 64
+  written-long : length (orders ++ replicate recordSize 0) ≡ recordSize * liveCount image + recordSize
   unfolding spare
   written-long =
-      let whole : length (rear (decode image)) ≡ 2048 = rear-length (decode image) figures in
-      omega (arith, ap length divided, length-append (orders ++ replicate 64 0) spare, length-replicate {A = ℕ} (64 * (32 - (liveCount image + 1))) 0, whole, room)
+      let whole : length (rear (decode image)) ≡ recordSize * maxLive = rear-length (decode image) figures in
+      omega (arith, ap length divided, length-append (orders ++ replicate recordSize 0) spare, length-replicate {A = ℕ} (recordSize * (maxLive - (liveCount image + 1))) 0, whole, room)
 
   accepted-live : length (accept (decode image) b .orders) ≡ liveCount image + 1
   accepted-live = accept-length (decode image) b ∙ ap (λ (k : ℕ). k + 1) live
@@ -99,16 +99,16 @@ module _ {image : List ℕ} {b : Block} {a : Order} (ok : Acceptable image b a) 
         let e : concat (map orderBytes (joined ++ (arrival (decode image) b ∷ []))) ≡ v ++ orderBytes a =
         rw (map-append orderBytes joined (arrival (decode image) b ∷ []), concat-append (map orderBytes joined) (orderBytes (arrival (decode image) b) ∷ []), concat-one (orderBytes (arrival (decode image) b)), ← ok .arrives)
         (ap (λ (l : List ℕ). l ++ orderBytes a) (sym is)) in
-        let k : 64 * (32 - length (joined ++ (arrival (decode image) b ∷ []))) ≡ 64 * (32 - (liveCount image + 1)) =
+        let k : recordSize * (maxLive - length (joined ++ (arrival (decode image) b ∷ []))) ≡ recordSize * (maxLive - (liveCount image + 1)) =
         rw (length-append joined (arrival (decode image) b ∷ []), length-map (decode image .orders) (joinedBy b), live) refl in
         rw (e, k) refl
 
-    pub accepted : {m1 m2 m3 : List ℕ} {n next : ℕ} → Stored image 80 v m1 → length v ≡ 64 * liveCount image → Stored m1 (80 + 64 * liveCount image) (orderBytes a) m2 → length (orderBytes a) ≡ 64 → Stored m2 0 (mark ++ twoBytes version ++ (n ∷ (liveCount image + 1) ∷ 0 ∷ []) ++ fourBytes (a .accepted) ++ fourBytes next) m3 → n ≡ decode image .n → next ≡ accept (decode image) b .next → m3 ≡ encode (accept (decode image) b)
+    pub accepted : {m1 m2 m3 : List ℕ} {n next : ℕ} → Stored image recordsAt v m1 → length v ≡ recordSize * liveCount image → Stored m1 (recordsAt + recordSize * liveCount image) (orderBytes a) m2 → length (orderBytes a) ≡ recordSize → Stored m2 0 (mark ++ twoBytes version ++ (n ∷ (liveCount image + 1) ∷ 0 ∷ []) ++ fourBytes (a .accepted) ++ fourBytes next) m3 → n ≡ decode image .n → next ≡ accept (decode image) b .next → m3 ≡ encode (accept (decode image) b)
     unfolding decode accept
     accepted {m1} {m2} {m3} {n} {next} s1 n1 s2 n2 s3 n-is next-is =
-        let both : Stored (encode (decode image)) 80 (v ++ orderBytes a) m2 = rw (sym same) at (stored-then s1 (ap (λ (k : ℕ). 80 + k) (sym n1)) s2) in
-        let long : length (orders ++ replicate 64 0) ≡ length (v ++ orderBytes a) = written-long ∙ sym (length-append v (orderBytes a) ∙ omega (arith, n1, n2)) in
-        let over : m2 ≡ header (decode image) ++ (entries (decode image) ++ (v ++ orderBytes a ++ spare)) = records-over (decode image) figures (orders ++ replicate 64 0) spare divided long both in
+        let both : Stored (encode (decode image)) recordsAt (v ++ orderBytes a) m2 = rw (sym same) at (stored-then s1 (ap (λ (k : ℕ). recordsAt + k) (sym n1)) s2) in
+        let long : length (orders ++ replicate recordSize 0) ≡ length (v ++ orderBytes a) = written-long ∙ sym (length-append v (orderBytes a) ∙ omega (arith, n1, n2)) in
+        let over : m2 ≡ header (decode image) ++ (entries (decode image) ++ (v ++ orderBytes a ++ spare)) = records-over (decode image) figures (orders ++ replicate recordSize 0) spare divided long both in
         let head = header-over (decode image) (v ++ orderBytes a ++ spare) (rw over at s3) refl in
         head
         ∙ ap (λ (r : List ℕ). mark ++ twoBytes version ++ (n ∷ (liveCount image + 1) ∷ 0 ∷ []) ++ fourBytes (a .accepted) ++ fourBytes next ++ (entries (decode image) ++ r)) accepted-records

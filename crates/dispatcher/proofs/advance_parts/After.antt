@@ -9,7 +9,7 @@ use Rattle.model.specs.declared.Order.{Order}
 use Rattle.model.specs.Limits.{maxStations, maxLive}
 use Rattle.model.specs.Lists.{concat}
 use Rattle.model.specs.Bytes.{twoBytes, fourBytes}
-use Rattle.model.specs.Layout.{mark, version, recordsAt, recordSize}
+use Rattle.model.specs.Layout.{mark, version, servicesAt, serviceSize, recordsAt, recordSize}
 use Rattle.model.specs.State.{State}
 use Rattle.model.specs.Tick.{vacate, starts, tick, leave, advance}
 use Rattle.model.specs.Image.{serviceBytes, ordersOf, decode, encode}
@@ -47,7 +47,7 @@ module _ {p : Pipeline} (ok : SoundPipeline p) where
 
   rows-long : length (rows live) ≡ recordSize * p .live
   rows-long =
-      let whole : length (rows live ++ zeros) ≡ 2048 = ap length (sym parted) ∙ rear-length (listed p) (ok .sound .in-range) in
+      let whole : length (rows live ++ zeros) ≡ recordSize * maxLive = ap length (sym parted) ∙ rear-length (listed p) (ok .sound .in-range) in
       omega (arith, whole, length-append (rows live) zeros, length-replicate {A = ℕ} (recordSize * (maxLive - length live)) 0, count, few ok)
 
   over : {v m : List ℕ} → length (rows live) ≡ length v → Stored (encode (listed p)) recordsAt v m → m ≡ header (listed p) ++ (entries (listed p) ++ (v ++ zeros))
@@ -102,14 +102,14 @@ module _ {p : Pipeline} (ok : SoundPipeline p) where
     as-long =
         omega (arith, rows-long, count, length-append (rows rest) freed, left .long, left .few, length-replicate {A = ℕ} (recordSize * (length live - kept)) 0)
 
-    pub written : {b c : List ℕ} → services ≡ tick (starts (listed p)) .services → Stored a 0 (mark ++ twoBytes version ++ (p .n ∷ kept ∷ 0 ∷ []) ++ fourBytes (p .clock + 1) ++ fourBytes (p .next)) b → Stored b 16 (concat (map serviceBytes (map vacate services))) c → length (concat (map serviceBytes (map vacate services))) ≡ 64 → c ≡ encode (advance (listed p))
-    written {b} {c} s h e sixty-four =
+    pub written : {b c : List ℕ} → services ≡ tick (starts (listed p)) .services → Stored a 0 (mark ++ twoBytes version ++ (p .n ∷ kept ∷ 0 ∷ []) ++ fourBytes (p .clock + 1) ++ fourBytes (p .next)) b → Stored b servicesAt (concat (map serviceBytes (map vacate services))) c → length (concat (map serviceBytes (map vacate services))) ≡ serviceSize * maxStations → c ≡ encode (advance (listed p))
+    written {b} {c} s h e all-entries =
         let back = rows rest ++ freed ++ zeros in
         let a-is : a ≡ header (listed p) ++ (entries (listed p) ++ back) = over as-long (left .stored) in
         let h-on : Stored (header (listed p) ++ (entries (listed p) ++ back)) 0 (header after) b = rw (left .count, a-is) at h in
         let b-is : b ≡ header after ++ (entries (listed p) ++ back) = header-over (listed p) back h-on refl in
-        let e-on : Stored (header after ++ (entries (listed p) ++ back)) 16 (entries after) c = rw b-is at e in
-        stored-over (header after) (entries (listed p)) back e-on refl (entries-length (listed p) (ok .sound .in-range) ∙ sym sixty-four)
+        let e-on : Stored (header after ++ (entries (listed p) ++ back)) servicesAt (entries after) c = rw b-is at e in
+        stored-over (header after) (entries (listed p)) back e-on refl (entries-length (listed p) (ok .sound .in-range) ∙ sym all-entries)
         ∙ ap (λ (r : List ℕ). header after ++ (entries after ++ r)) records-after
         ∙ sym (after-header after)
         ∙ ap encode (after-is s)

@@ -13,7 +13,7 @@ use Rattle.plan_model.specs.declared.Task.{Task}
 use Rattle.plan_model.specs.declared.Verdict.{Verdict}
 use Rattle.plan_model.specs.declared.Verdict.the-variants.{OnTime, Late}
 use Rattle.plan_model.specs.Limits.{maxTasks}
-use Rattle.plan_model.specs.Meaning.{maxResponse}
+use Rattle.plan_model.specs.Meaning.{maxBase, maxResponse}
 use Rattle.plan_model.specs.Output.{verdictEnd, taskLine, table, refusal}
 use Rattle.plan_text.proofs.output.Lengths.{taskRow, task-rows, length-field, length-line, length-table, length-refusal}
 
@@ -22,7 +22,7 @@ word-room OnTime = omega arith
 word-room Late = omega arith
 
 -- At most 2 digits of the number, 5 of the base and 10 of the response, each with a space after it, and the longer of the two words.
-line-room : (k : ℕ) (t : Task) → k ≤ maxTasks → (t .base ≤ 48000) × (t .response ≤ maxResponse) → length (taskLine k t) ≤ 28
+line-room : (k : ℕ) (t : Task) → k ≤ maxTasks → (t .base ≤ maxBase) × (t .response ≤ maxResponse) → length (taskLine k t) ≤ 28
 line-room k t h figures =
     omega (
       arith,
@@ -36,8 +36,8 @@ line-room k t h figures =
       word-room (t .verdict),
     )
 
--- 48,000 is the largest base there is (plan_model's proofs/Ranges.antt). 27 for the heading and 28 for each of 32 lines make 923.
-pub table-room : (none : Task) (tasks : List Task) → length tasks ≤ maxTasks → ((i : ℕ) → i < length tasks → (getD tasks i none .base ≤ 48000) × (getD tasks i none .response ≤ maxResponse)) → length (table tasks) ≤ 1024
+-- That no base is above `maxBase` is in plan_model's proofs/Ranges.antt. 27 for the heading and 28 for each of 32 lines make 923.
+pub table-room : (none : Task) (tasks : List Task) → length tasks ≤ maxTasks → ((i : ℕ) → i < length tasks → (getD tasks i none .base ≤ maxBase) × (getD tasks i none .response ≤ maxResponse)) → length (table tasks) ≤ 1024
 table-room none tasks h figures =
     let rows = rw (take-all (length tasks) tasks (le-refl _)) at (task-rows none (length tasks) tasks (le-refl _)) in
     omega (

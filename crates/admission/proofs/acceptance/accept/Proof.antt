@@ -8,7 +8,7 @@ use borrow.Author.Needs.{needs}
 use lib.Dec.{eqb}
 use Rattle.model.specs.declared.Block.{Block}
 use Rattle.model.specs.declared.Order.{Order}
-use Rattle.model.specs.Limits.{lastTicket}
+use Rattle.model.specs.Limits.{maxLive, lastTicket}
 use Rattle.model.specs.Image.{liveCount, decode}
 use Rattle.model.specs.Admission.{arrival, accept}
 use Rattle.lists.proofs.Stores.{stored-length}
@@ -23,7 +23,7 @@ use Rattle.admission.proofs.acceptance.accept.Tie as tie
 bytes-of : (c : tie.After-slice-known) → Below byteLimit (c .before .args .image .now)
 bytes-of c i = c .slice-known .given i .fits
 
-spare : (c : tie.After-slice-known) → liveCount (c .before .args .image .now) < 32
+spare : (c : tie.After-slice-known) → liveCount (c .before .args .image .now) < maxLive
 spare c = room (c .before .pre) (bytes-of c)
 
 -- The ticket after the arrival's is the next one.

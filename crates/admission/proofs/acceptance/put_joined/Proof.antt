@@ -6,7 +6,7 @@ use lib.ListN.{length}
 use borrow.Author.Needs.{needs}
 use Rattle.model.specs.declared.Order.{Order}
 use Rattle.model.specs.Lists.{concat}
-use Rattle.model.specs.Layout.{recordPart}
+use Rattle.model.specs.Layout.{imageSize, recordsAt, recordSize, recordPart}
 use Rattle.model.specs.Image.{orderOf, orderBytes}
 use Rattle.model.specs.Admission.{joinedBy}
 use Rattle.lists.proofs.Stores.{stored-same}
@@ -16,7 +16,7 @@ use Rattle.admission.proofs.acceptance.put_joined.Statement.{statement}
 use Rattle.admission.proofs.acceptance.put_joined.Tie as tie
 
 abbrev Inv-loop : tie.InvT-loop
-Inv-loop image₀ b live top i₀ image i = (i ≤ live) × (length image ≡ 2128) × Rows (λ k. orderBytes (joinedBy b (orderOf (recordPart image₀ k)))) 64 image₀ 80 i image
+Inv-loop image₀ b live top i₀ image i = (i ≤ live) × (length image ≡ imageSize) × Rows (λ k. orderBytes (joinedBy b (orderOf (recordPart image₀ k)))) recordSize image₀ recordsAt i image
 
 abbrev μ-loop : tie.MeasureT-loop
 μ-loop image₀ b live top i₀ image i = live - i

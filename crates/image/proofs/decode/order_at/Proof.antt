@@ -3,6 +3,7 @@ use mathlib.Core.Path.{_≡_, _∙_}
 use Prim.Native.Nat.{_+_, _-_, _*_}
 use native.Mathlib.Omega.{arith}
 use borrow.Author.Needs.{needs}
+use Rattle.model.specs.Layout.{recordsAt, recordSize}
 use Rattle.image.proofs.decode.order_at.Statement.{statement}
 use Rattle.image.proofs.decode.order_at.Tie as tie
 
@@ -30,7 +31,7 @@ order-of-requires c κs = search needs
 returns : tie.Need-returns
 returns c =
     let i = c .before .before .before .args .i in
-    let e : (80 + 64 * i + 64) - (80 + 64 * i) ≡ 64 = omega arith in
+    let e : (recordsAt + recordSize * i + recordSize) - (recordsAt + recordSize * i) ≡ recordSize = omega arith in
     c .order-of .ensures ∙ rw e
 
 pub order-at-spec : {M : Type 1} → statement M

@@ -3,6 +3,7 @@ use mathlib.Core.Path.{_≡_, _∙_}
 use Prim.Native.Nat.{_+_, _-_, _*_}
 use native.Mathlib.Omega.{arith}
 use borrow.Author.Needs.{needs}
+use Rattle.model.specs.Layout.{servicesAt, serviceSize}
 use Rattle.image.proofs.decode.service_at.Statement.{statement}
 use Rattle.image.proofs.decode.service_at.Tie as tie
 
@@ -30,7 +31,7 @@ service-of-requires c κs = search needs
 returns : tie.Need-returns
 returns c =
     let i = c .before .before .before .args .i in
-    let e : (16 + 8 * i + 8) - (16 + 8 * i) ≡ 8 = omega arith in
+    let e : (servicesAt + serviceSize * i + serviceSize) - (servicesAt + serviceSize * i) ≡ serviceSize = omega arith in
     c .service-of .ensures ∙ rw e
 
 pub service-at-spec : {M : Type 1} → statement M

@@ -3,6 +3,7 @@ use mathlib.Core.Path.{_≡_, ap}
 use Prim.Native.Nat.{ℕ}
 use lib.ListN.{length, replicate}
 use borrow.Author.Needs.{needs}
+use Rattle.model.specs.Layout.{imageSize}
 use Rattle.lists.proofs.Stores.{stored-same}
 use Rattle.image.proofs.encode.Rows.{after-header, fresh-encoded}
 use Rattle.image.proofs.encode.encode_fresh.Statement.{statement}
@@ -22,7 +23,7 @@ returns c =
     let zeros = c .before .before in
     let header = zeros .before .before .before .before in
     let top = header .before .before .before in
-    let long : length (header .put-header .last .0) ≡ 2128 = search needs in
+    let long : length (header .put-header .last .0) ≡ imageSize = search needs in
     fresh-encoded (top .pre) (header .put-header .ensures) (stored-same (zeros .put-zeros .ensures) (ap (λ (n : ℕ). replicate n 0) (after-header (length (header .put-header .last .0)) long)))
 
 pub encode-fresh-spec : {M : Type 1} → statement M

@@ -5,6 +5,7 @@ use native.Mathlib.Omega.{arith}
 use lib.ListN.{length, getD}
 use borrow.Author.Needs.{needs}
 use Rattle.model.specs.Lists.{concat}
+use Rattle.model.specs.Layout.{imageSize, recordsAt, recordSize}
 use Rattle.model.specs.Image.{orderBytes}
 use Rattle.lists.proofs.Stores.{stored-same}
 use Rattle.lists.proofs.Fills.{Rows, rows-none, rows-more, map-upward, past}
@@ -12,7 +13,7 @@ use Rattle.image.proofs.encode.put_orders.Statement.{statement}
 use Rattle.image.proofs.encode.put_orders.Tie as tie
 
 abbrev Inv-loop : tie.InvT-loop
-Inv-loop image₀ live orders i₀ image i = (i ≤ live) × (length image ≡ 2128) × Rows (λ k. orderBytes (getD orders k past)) 64 image₀ 80 i image
+Inv-loop image₀ live orders i₀ image i = (i ≤ live) × (length image ≡ imageSize) × Rows (λ k. orderBytes (getD orders k past)) recordSize image₀ recordsAt i image
 
 abbrev μ-loop : tie.MeasureT-loop
 μ-loop image₀ live orders i₀ image i = live - i

@@ -7,6 +7,7 @@ use lib.ListN.{length, getD}
 use lib.Seq.{take-all}
 use borrow.Author.Needs.{needs}
 use Rattle.model.specs.Lists.{concat}
+use Rattle.model.specs.Layout.{imageSize, servicesAt, serviceSize}
 use Rattle.model.specs.Image.{serviceBytes}
 use Rattle.lists.proofs.Stores.{stored-same}
 use Rattle.lists.proofs.Fills.{Rows, rows-none, rows-more, map-upward}
@@ -16,7 +17,7 @@ use Rattle.image.proofs.encode.put_services.Statement.{statement}
 use Rattle.image.proofs.encode.put_services.Tie as tie
 
 abbrev Inv-loop : tie.InvT-loop
-Inv-loop image₀ services i₀ image i = (i ≤ 8) × (length image ≡ 2128) × Rows (λ k. serviceBytes (getD services k idle)) 8 image₀ 16 i image
+Inv-loop image₀ services i₀ image i = (i ≤ 8) × (length image ≡ imageSize) × Rows (λ k. serviceBytes (getD services k idle)) serviceSize image₀ servicesAt i image
 
 abbrev μ-loop : tie.MeasureT-loop
 μ-loop image₀ services i₀ image i = 8 - i

@@ -4,7 +4,7 @@ use mathlib.Core.Path.{_≡_, sym}
 use Prim.Native.Nat.{_+_, _*_}
 use borrow.Author.Needs.{needs}
 use Rattle.model.specs.Lists.{part, isZero}
-use Rattle.model.specs.Layout.{recordPart}
+use Rattle.model.specs.Layout.{recordsAt, recordSize, stationAt, stationZeroAt, recordZeroAt, recordPart}
 use Rattle.lists.proofs.Tests.{all-append}
 use Rattle.soundness.proofs.Parts.{part-part, zero-rest, zero-word}
 use Rattle.soundness.proofs.zeros.record_zero.Statement.{statement}
@@ -33,18 +33,18 @@ returns c =
     let top = c .before .before .before in
     let image = top .args .image .now in
     let i = top .args .i in
-    let at = 80 + 64 * i in
-    let next : at + 16 + 1 ≡ at + 17 = omega arith in
+    let at = recordsAt + recordSize * i in
+    let next : at + stationAt + 1 ≡ at + stationZeroAt = omega arith in
     rw (
       c .before .u32-at .ensures,
       c .u32-at2 .ensures,
-      zero-rest image (at + 16) (omega arith) (omega (arith, c .before .before .shared-slice-known .given (at + 16))),
+      zero-rest image (at + stationAt) (omega arith) (omega (arith, c .before .before .shared-slice-known .given (at + stationAt))),
       next,
-      zero-word image (at + 60) (omega arith),
-      ← part-part image at 64 17 3 (omega arith),
-      ← part-part image at 64 60 4 (omega arith),
+      zero-word image (at + recordZeroAt) (omega arith),
+      ← part-part image at recordSize stationZeroAt 3 (omega arith),
+      ← part-part image at recordSize recordZeroAt 4 (omega arith),
     )
-    (sym (all-append isZero (part (recordPart image i) 17 3) (part (recordPart image i) 60 4)))
+    (sym (all-append isZero (part (recordPart image i) stationZeroAt 3) (part (recordPart image i) recordZeroAt 4)))
 
 pub record-zero-spec : {M : Type 1} → statement M
 record-zero-spec =

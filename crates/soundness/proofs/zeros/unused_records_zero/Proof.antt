@@ -7,6 +7,7 @@ use lib.Seq.{length-take-le, take-all}
 use borrow.Author.Tests.{le-ltb}
 use Rattle.model.specs.Lists.{isZero, all}
 use Rattle.model.specs.Bytes.{byte}
+use Rattle.model.specs.Layout.{imageSize, recordsAt, recordSize}
 use Rattle.model.specs.Image.{liveCount}
 use Rattle.model.specs.Soundness.{unusedRecordsZero}
 use Rattle.lists.proofs.Tests.{all-beyond}
@@ -15,10 +16,10 @@ use Rattle.soundness.proofs.zeros.unused_records_zero.Statement.{statem
 use Rattle.soundness.proofs.zeros.unused_records_zero.Tie as tie
 
 abbrev Inv-loop : tie.InvT-loop
-Inv-loop image live found₀ i₀ found i = (80 + 64 * live ≤ i) × (i ≤ 2128) × (isZero found ≡ all isZero (drop (80 + 64 * live) (take i image)))
+Inv-loop image live found₀ i₀ found i = (recordsAt + recordSize * live ≤ i) × (i ≤ imageSize) × (isZero found ≡ all isZero (drop (recordsAt + recordSize * live) (take i image)))
 
 abbrev μ-loop : tie.MeasureT-loop
-μ-loop image live found₀ i₀ found i = 2128 - i
+μ-loop image live found₀ i₀ found i = imageSize - i
 
 mul-i : tie.Need-mul-i Inv-loop μ-loop
 mul-i c = omega arith
@@ -30,7 +31,7 @@ loop-holds : tie.Need-loop-holds Inv-loop μ-loop
 unfolding all
 loop-holds c =
     let image = c .args .image .now in
-    let at = 80 + 64 * c .args .live in
+    let at = recordsAt + recordSize * c .args .live in
     (omega arith, omega arith, rw (drop-of-length-le (take at image) {i = at} (omega (arith, length-take-le at image (omega arith)))))
 
 shared-slice-read-found : tie.Need-shared-slice-read-found Inv-loop μ-loop
@@ -47,16 +48,16 @@ loop-again c =
     let here = c .before .before in
     let image = here .before .args .image .now in
     let i = here .loop .i in
-    let at = 80 + 64 * here .before .args .live in
+    let at = recordsAt + recordSize * here .before .args .live in
     (omega arith, omega arith, zero-both (here .loop .found) (byte image i) ∙ rw (here .loop .inv .2) (sym (all-beyond isZero 0 at image i (omega arith) ∙ rw (le-ltb i at (omega arith)))))
 
 returns : tie.Need-returns Inv-loop μ-loop
 unfolding unusedRecordsZero
 returns c =
     let image = c .before .before .args .image .now in
-    let e : c .before .loop .i ≡ 2128 = omega arith in
+    let e : c .before .loop .i ≡ imageSize = omega arith in
     let same : c .before .before .args .live ≡ liveCount image = c .before .before .pre .1 in
-    rw (take-all 2128 image (omega arith), same) at (rw e at (c .before .loop .inv .2))
+    rw (take-all imageSize image (omega arith), same) at (rw e at (c .before .loop .inv .2))
 
 pub unused-records-zero-spec : {M : Type 1} → statement M
 unused-records-zero-spec =

@@ -4,6 +4,7 @@ use mathlib.Core.Path.{sym}
 use mathlib.Core.List.{_++_}
 use Rattle.model.specs.Limits.{maxStations}
 use Rattle.model.specs.Lists.{isZero, part, concat, upward}
+use Rattle.model.specs.Layout.{headerZeroAt}
 use Rattle.model.specs.Image.{liveCount}
 use Rattle.model.specs.Soundness.{zeroBytes, zeroBytesZero}
 use Rattle.soundness.specs.Zeros.{serviceZeros, recordZeros}
@@ -28,8 +29,8 @@ returns c =
     let image = top .args .image .now in
     let stations = concat (upward 0 maxStations (serviceZeros image)) in
     let records = concat (upward 0 (liveCount image) (recordZeros image)) in
-    rw (c .before .services-zero .ensures, c .records-zero .ensures, top .pre .1, zero-byte image 7 (omega arith), ← all-append isZero (part image 7 1) stations)
-    (sym (all-append isZero (part image 7 1 ++ stations) records))
+    rw (c .before .services-zero .ensures, c .records-zero .ensures, top .pre .1, zero-byte image headerZeroAt (omega arith), ← all-append isZero (part image headerZeroAt 1) stations)
+    (sym (all-append isZero (part image headerZeroAt 1 ++ stations) records))
 
 pub zero-bytes-zero-spec : {M : Type 1} → statement M
 zero-bytes-zero-spec =
