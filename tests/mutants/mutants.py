@@ -10,8 +10,7 @@ First the edits of tests/mutants/edits, which have the form of must-fail edits, 
 entry of tests/mutants/same is a change of it.
 
 A function is proved from its own body and from the contracts of what it calls, so one check judges changes of several functions of a crate, one in each. It
-begins with a copy of what a check of the unchanged crate left (`rattle check --incremental`). A change that is accepted is checked once more, by itself and
-from nothing.
+begins with a copy of what a check of the unchanged crate left (`rattle check --incremental`).
 
 Printed is how many were refused for a fact, and how many only because the proof no longer fits the code's shape; how many the compiler does not take for a
 program; and how many are accepted. Those that are accepted have to be the ones of tests/mutants/same, where each has its reason: by reading, it is the same
@@ -107,9 +106,9 @@ class Prover:
         return words + ["-L", f"dependency={made}", "-L", f"dependency={kit}", "--antt-project", str(self.home / "logic/antt-project.json"),
                         "--logic-built", str(self.own / "logic-built")]
 
-    def check(self, crate, folder, kept=None):
-        """Exit status (none at the limit) and what it said."""
-        words = [str(self.home / "bin/rattle"), "check", *self.words(crate, folder), *(["--incremental", str(kept)] if kept else [])]
+    def check(self, crate, folder, kept):
+        """What it said, and its exit status (none at the limit)."""
+        words = [str(self.home / "bin/rattle"), "check", *self.words(crate, folder), "--incremental", str(kept)]
         run = subprocess.Popen(words, stdout=subprocess.PIPE, stderr=subprocess.STDOUT, text=True, errors="replace", start_new_session=True)
         try:
             return run.communicate(timeout=LIMIT)[0], run.returncode
@@ -140,12 +139,10 @@ class Desk:
                 text = text[:a] + new + text[b:]
             (self.folder / file).write_text(text, encoding="utf-8")
 
-    def ask(self, crate, mutants, from_nothing=False):
+    def ask(self, crate, mutants):
         self.copy(crate, mutants)
-        kept = None
-        if not from_nothing:
-            kept = self.folder / "kept"
-            shutil.copytree(ROOM / "kept" / crate, kept)
+        kept = self.folder / "kept"
+        shutil.copytree(ROOM / "kept" / crate, kept)
         return self.prover.check(crate, self.folder, kept)
 
     def judge(self, crate, mutants):
@@ -210,12 +207,6 @@ class Desk:
             m.verdict, m.said = "shape" if SHAPE.search(first) else "refused", first
         else:
             m.verdict, m.said = "undecided", f"status {status}: {first_error(said)}"
-
-    def confirm(self, m):
-        """Accepted, from nothing and by itself?"""
-        said, status = self.ask(m.crate, [m], from_nothing=True)
-        m.verdict = ""
-        self.judge_one(m.crate, m, said, status)
 
 
 def first_error(said):
@@ -328,9 +319,6 @@ def work(desk, todo, lock, told):
                 return
             crate, batch = todo.pop(0)
         desk.judge(crate, batch)
-        for m in batch:
-            if m.verdict == "accepted":
-                desk.confirm(m)
         told(batch)
 
 

@@ -4,13 +4,13 @@
 // crate `plan_model`.
 ghost use Prim.Native.Nat.{_≤_};
 ghost use lib.ListN.{length};
-use dispatcher::BLOCK_SIZE;
-use dispatcher::IMAGE_SIZE;
-use dispatcher::REPLY_SIZE;
 use dispatcher::advance::dispatcher_advance;
 use dispatcher::offer::dispatcher_offer;
 use dispatcher::offer::dispatcher_quote;
 use dispatcher::open::dispatcher_open;
+use image::layout::BLOCK_SIZE;
+use image::layout::IMAGE_SIZE;
+use image::layout::REPLY_SIZE;
 use image_text::explanation::explain;
 use plan_text::print::print_plan;
 use trials::block::order_block;

@@ -6,8 +6,3 @@ pub mod advance_parts; // advance by its parts
 pub mod open; // dispatcher_open
 pub mod offer; // dispatcher_quote, dispatcher_offer
 pub mod advance; // dispatcher_advance
-
-// How long is what a caller lends.
-pub use image::layout::BLOCK_SIZE;
-pub use image::layout::IMAGE_SIZE;
-pub use image::layout::REPLY_SIZE;
