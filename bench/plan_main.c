@@ -1,4 +1,4 @@
-/* plan_main TABLES MOST INPUT..: plan of the library (libplan_probe.a) beside the plain C of plan.c, as gcc and as clang compile it.
+/* plan_main TABLES MOST INPUT..: plan of the library (libprobe.a) beside the plain C of plan.c, as gcc and as clang compile it.
  *
  * First all three must print the same for each INPUT, and what the second simulator printed (the file beside it that ends in .out): the first difference ends
  * the program with status 1. Then they are timed as timing.h says, in nanoseconds for one plan of 32 tasks at 8 stations:

@@ -70,7 +70,7 @@ build_simulator() {
     flock -u 9
 }
 
-# build_comparison PROGRAM: a program of tests/compare, after build_simulator and static_library dispatcher and plan_probe. `comparison` is the one with the
+# build_comparison PROGRAM: a program of tests/compare, after build_simulator and static_library dispatcher and probe. `comparison` is the one with the
 # library as it is, and "$comparison-faulty" the one that tests/compare/faults has put behind faults.
 comparison=target/compare/release/compare
 build_comparison() {
