@@ -3,6 +3,11 @@ import os
 import shutil
 import struct
 import subprocess
+import sys
+from pathlib import Path
+
+sys.path.insert(0, str(Path(__file__).resolve().parent.parent))
+from level import LEVEL, at_level
 
 SIZE = 2128
 

@@ -21,7 +21,7 @@ import struct
 import subprocess
 import sys
 
-from cabinet import SIZE, Image, Runner, advance_lines, block, check, least, whole_lines
+from cabinet import LEVEL, SIZE, Image, Runner, advance_lines, at_level, block, check, least, whole_lines
 
 SEED = 7301
 STATIONS = 3
@@ -160,7 +160,7 @@ class Plain:
 
     def replay(self, simulator, path):
         """The calls as a list of the second simulator, with the numbers, replies and images that the program gave."""
-        zeros, lines, answered = "00" * 16, [f"level 0\nimage {'00' * SIZE}"], iter(self.replies)
+        zeros, lines, answered = "00" * 16, [f"level {LEVEL}\nimage {'00' * SIZE}"], iter(self.replies)
         lines.append(f"open {STATIONS:08x} {zeros} -> 0 {zeros} {fnv(self.images[0].data):016x}")
         counts = {}
         for k, text in enumerate(self.listed):
@@ -186,7 +186,7 @@ class Plain:
                 counts[f"{word} {number}"] = counts.get(f"{word} {number}", 0) + 1
         with open(path, "w") as file:
             file.write("\n".join(lines) + "\n")
-        said = subprocess.run([simulator, "--level", "0", "replay", path], capture_output=True, text=True)
+        said = subprocess.run(at_level(simulator, "replay", path), capture_output=True, text=True)
         check(said.returncode == 0 and said.stdout == f"{len(lines) - 1} calls agree\n", "the second simulator:", said.stdout, said.stderr)
         for name, count in {"offer 0": 10, "quote 0": 1, "offer 11": 1, "offer 12": 1, "offer 6": 1, "quote 7": 1, "not understood": 2}.items():
             check(counts.get(name, 0) >= count, "the list shows too little:", name, counts.get(name, 0))

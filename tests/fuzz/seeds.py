@@ -10,6 +10,10 @@ import os
 import subprocess
 import sys
 import tempfile
+from pathlib import Path
+
+sys.path.insert(0, str(Path(__file__).resolve().parent.parent))
+from level import at_level
 
 SEED = 70000
 ADVANCE, OFFER, QUOTE, OPEN = range(4)
@@ -188,7 +192,7 @@ def of_the_simulator(simulator):
     """Lists of calls and images that the second simulator makes."""
     with tempfile.TemporaryDirectory() as folder:
         for kind, count in (('calls', 6), ('images', 3)):
-            words = [simulator, '--level', '0', 'gen', kind, '--seed', str(SEED), '--count', str(count), '--out', folder]
+            words = at_level(simulator, 'gen', kind, '--seed', str(SEED), '--count', str(count), '--out', folder)
             subprocess.run(words + (['--calls', '12'] if kind == 'calls' else []), check=True, stdout=subprocess.DEVNULL)
         for file in sorted(os.listdir(folder)):
             if not file.endswith('.txt'):

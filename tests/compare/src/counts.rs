@@ -20,7 +20,7 @@ impl Kind {
 /// Numbers 0 to 14.
 const NUMBERS: usize = 15;
 
-/// Clauses of soundness at level 0, in the simulator's words.
+/// Clauses of soundness, in the simulator's words.
 pub const CLAUSES: [(Clause, &str); 20] = [
     (Clause::StationCount, "StationCount"), (Clause::LiveCount, "LiveCount"), (Clause::Clock, "Clock"), (Clause::ZeroBytes, "ZeroBytes"),
     (Clause::UnusedRecords, "UnusedRecords"), (Clause::TicketLeast, "TicketLeast"), (Clause::TicketsRising, "TicketsRising"),
@@ -82,8 +82,8 @@ impl Counts {
 
     /// An image that a list begins with.
     pub fn image(&mut self, image: &[u8]) {
-        let kind = if image.len() != IMAGE { 1 } else if !mark_and_version(crate::LEVEL, image) { 2 } else {
-            let broken = flaws(crate::LEVEL, image);
+        let kind = if image.len() != IMAGE { 1 } else if !mark_and_version(crate::level(), image) { 2 } else {
+            let broken = flaws(crate::level(), image);
             if let [clause] = broken[..] { self.alone[CLAUSES.iter().position(|(c, _)| *c == clause).unwrap()] += 1; }
             if broken.is_empty() { 0 } else { 3 }
         };

@@ -2,7 +2,7 @@
 
 use crate::counts::Kind;
 use crate::desk::{Desk, Sheet};
-use crate::{limits, IMAGE, LEVEL};
+use crate::{level, limits, IMAGE};
 use second_simulator::bytes::{get16, get32, put16, put32};
 use second_simulator::calls::Call;
 use second_simulator::gen::{block, damages};
@@ -93,7 +93,7 @@ fn hurt(rng: &mut Rng, state: &State, image: &mut [u8]) {
 /// Quote, advance and offer on an image. The order fits in three images of four; in the others a later question has a "no" as well. Some replies do not fit.
 fn probe(desk: &mut Desk, name: &str, image: Vec<u8>, rng: &mut Rng) {
     let n = usize::from(image[5]).clamp(1, 8);
-    let mut order = block(LEVEL, 60_000, &vec![1; n], &vec![1; n], 0);
+    let mut order = block(level(), 60_000, &vec![1; n], &vec![1; n], 0);
     match rng.below(12) {
         0 => order.resize(rng.pick(&[0, 27, 29, 56]), 0),
         1 => put16(&mut order, 12, 6_001),
@@ -113,14 +113,14 @@ fn probe(desk: &mut Desk, name: &str, image: Vec<u8>, rng: &mut Rng) {
 pub fn unit(desk: &mut Desk, name: &str, seed: u64, place: u64) {
     let mut rng = Rng::new(seed);
     if rng.one_in(3) {
-        for damaged in damages(LEVEL, &mut rng) { probe(desk, name, damaged.image, &mut rng); }
+        for damaged in damages(level(), &mut rng) { probe(desk, name, damaged.image, &mut rng); }
         return;
     }
     let mut byte = (place.wrapping_mul(40) % IMAGE as u64) as usize;
     for _ in 0..10 {
         // Any cabinet, or the largest, in which the last field of all can be hurt.
         let aim = if rng.one_in(2) { limits::aim(&mut rng) } else { limits::aim_at(&mut rng, 8, 32) };
-        let good = encode(LEVEL, &aim.state);
+        let good = encode(level(), &aim.state);
         for k in 0..13 {
             let mut image = good.clone();
             if k < 4 {

@@ -15,9 +15,14 @@ pub mod lists;
 pub mod plan;
 
 use second_simulator::level::Level;
+use std::sync::OnceLock;
 
-/// Document 01, with nothing of document 02.
-pub const LEVEL: Level = Level::BASE;
+/// How much of document 02 the simulator is asked for: the level of tests/level.
+pub fn level() -> Level {
+    static LEVEL: OnceLock<Level> = OnceLock::new();
+    let read = || include_str!("../../level").trim().parse().ok().and_then(Level::new).expect("tests/level has no level of the second simulator");
+    *LEVEL.get_or_init(read)
+}
 
 pub const IMAGE: usize = 2128;
 pub const ORDER: usize = 28;

@@ -2,7 +2,7 @@
 
 use crate::counts::Kind;
 use crate::desk::{Desk, Sheet};
-use crate::{LEVEL, ORDER};
+use crate::{level, ORDER};
 use second_simulator::bytes::{put16, put32};
 use second_simulator::calls::Call;
 use second_simulator::gen::block;
@@ -176,7 +176,7 @@ pub fn aim_at(rng: &mut Rng, n: usize, live: usize) -> Aim {
 impl Aim {
     fn block(&self, due_in: u64) -> Vec<u8> {
         let n = self.state.n;
-        block(LEVEL, due_in as u32, &self.ranks[..n], &self.costs[..n], 0)
+        block(level(), due_in as u32, &self.ranks[..n], &self.costs[..n], 0)
     }
 
     /// The order, with a due-in at an edge.
@@ -220,7 +220,7 @@ pub fn unit(desk: &mut Desk, name: &str, seed: u64) {
     let mut rng = Rng::new(seed);
     for _ in 0..20 {
         let aim = aim(&mut rng);
-        let image = encode(LEVEL, &aim.state);
+        let image = encode(level(), &aim.state);
         let mut sheet = Sheet::new(desk, Kind::Limits, name, image);
         for k in 0..20 {
             // At first the aimed order, while the image is the one that it was aimed at.

@@ -2,7 +2,7 @@
 
 use crate::counts::Kind;
 use crate::desk::{Desk, Sheet};
-use crate::{limits, IMAGE, LEVEL};
+use crate::{level, limits, IMAGE};
 use second_simulator::calls::Call;
 use second_simulator::gen::{sound_state, Maker, Profile};
 use second_simulator::image::encode;
@@ -16,8 +16,8 @@ pub fn sound(desk: &mut Desk, name: &str, seed: u64) {
         let calls = rng.pick(&[10, 20, 50, 200]).min(left);
         left -= calls;
         let profile = Profile::random(&mut rng);
-        let image = encode(LEVEL, &sound_state(LEVEL, &mut rng));
-        let mut maker = Maker { level: LEVEL, rng: rng.clone(), profile };
+        let image = encode(level(), &sound_state(level(), &mut rng));
+        let mut maker = Maker { level: level(), rng: rng.clone(), profile };
         rng.next();
         let mut sheet = Sheet::new(desk, Kind::Sound, name, image);
         for _ in 0..calls {
@@ -34,7 +34,7 @@ pub fn lengths(desk: &mut Desk, name: &str, seed: u64) {
     let mut rng = Rng::new(seed);
     for _ in 0..70 {
         let aim = limits::aim(&mut rng);
-        let mut image = encode(LEVEL, &aim.state);
+        let mut image = encode(level(), &aim.state);
         let length = rng.pick(&[0, 1, 2, 4, 5, 8, 15, 16, 79, 80, 2064, 2120, IMAGE - 1, IMAGE, IMAGE, IMAGE, IMAGE + 1, IMAGE + 64, 3152, 4000]);
         image.resize(length, 0);
         if rng.one_in(4) { image = rng.bytes(length); }
