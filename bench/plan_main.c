@@ -67,12 +67,12 @@ static void make_table(struct subject *s, int kind)
     char *text = (char *)s->text;
     size_t at = (size_t)sprintf(text, "8\n");
     for (unsigned i = 0; i < TASKS; i++) {
-        unsigned period = kind == 1 && i < 3 ? 40 + i : 60000 - 7 * i;
+        unsigned period = kind == 1 && i < 3 ? 40 + i : MAX_PERIOD - 7 * i;
         unsigned deadline = kind == 2 ? 10 : kind == 1 && i < 3 ? 40 : 50000;
         at += (size_t)sprintf(text + at, "%u %u", period, deadline);
         for (unsigned k = 0; k < COSTS; k++) {
             unsigned cost = kind == 1 ? (i < 3 ? 11 : 1 + (5 * i + k) % 90) : 1 + (37 * i + 11 * k) % 150;
-            at += (size_t)sprintf(text + at, " %u", kind == 3 && i == TASKS - 1 && k == COSTS - 1 ? 6001 : cost);
+            at += (size_t)sprintf(text + at, " %u", kind == 3 && i == TASKS - 1 && k == COSTS - 1 ? MAX_COST + 1u : cost);
         }
         at += (size_t)sprintf(text + at, "\n");
     }
