@@ -35,6 +35,11 @@ need_x86_64() {
     [ "$(uname -m)" = x86_64 ] || die "this test runs code of the library, which is for x86-64; this machine is $(uname -m)"
 }
 
+# header_figure NAME: the figure that include/dispatcher.h has for DISPATCHER_NAME.
+header_figure() {
+    sed -nE "s/^#define DISPATCHER_$1 ([0-9]+)u?( .*)?$/\1/p" include/dispatcher.h
+}
+
 # newer_than_sources FILE: FILE is there and no source of a crate was changed after it was made.
 newer_than_sources() {
     [ -e "$1" ] && [ -z "$(find crates crates.txt -newer "$1" -print -quit)" ]

@@ -3,7 +3,7 @@
 use crate::counts::{Counts, Kind};
 use crate::desk::{touched, Clerk, Desk, Library};
 use crate::plan::Tables;
-use crate::{book, damage, lent, level, limits, lists};
+use crate::{book, damage, layout, lent, level, limits, lists};
 use second_simulator::bytes::unhex;
 use second_simulator::calls::{Call, Machine};
 use second_simulator::gen::{self, Step};
@@ -233,6 +233,7 @@ fn replay(library: Library, a: &Arguments) -> ExitCode {
 }
 
 pub fn run(library: Library) -> ExitCode {
+    layout::check();
     lent::on_touch(touched);
     match arguments() {
         Some(a) if a.replay && !a.files.is_empty() => replay(library, &a),
