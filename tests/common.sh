@@ -99,14 +99,12 @@ simulator_archive() {
     flock -u 9
 }
 
-# build_soak: target/soak/by-simulator, which prints what the program soak has to print, and target/soak/soak.o, to be linked with another dispatcher. After
+# linked_by_simulator SOURCE PROGRAM: a C program whose calls the simulator answers. PROGRAM.o is there as well, to be linked with another dispatcher. After
 # build_simulator.
-build_soak() {
-    mkdir -p target/soak
-    simulator_archive target/soak/libsimulator.a
-    gcc -std=c11 -O2 -Wall -Wextra -Werror -pedantic -Iinclude -c -o target/soak/soak.o tests/soak/soak.c || die "tests/soak/soak.c does not compile"
-    gcc -o target/soak/by-simulator target/soak/soak.o target/soak/libsimulator.a "${beside_archive[@]}" ||
-        die "tests/soak/soak.c does not link with the simulator"
+linked_by_simulator() {
+    simulator_archive "$2.a"
+    gcc -std=c11 -O2 -Wall -Wextra -Werror -pedantic -c -o "$2.o" "$1" || die "$1 does not compile"
+    gcc -o "$2" "$2.o" "$2.a" "${beside_archive[@]}" || die "$1 does not link with the second simulator"
 }
 
 # build_comparison PROGRAM: a program of tests/compare, after build_simulator and static_library dispatcher and probe. `comparison` is the one with the

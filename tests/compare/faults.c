@@ -496,7 +496,7 @@ size_t plan_probe_text(const uint8_t *input, size_t input_len, uint8_t *out)
 {
     size_t length = right_plan_text(input, input_len, out);
     int table = length > 0 && out[0] == 't';
-    char given[16400], text[OUT + 64];
+    char given[16400], text[OUT + 100];
     if (fault() == 57 && table) { /* a response at the deadline is on time */
         memcpy(given, input, input_len);
         given[input_len] = 0;

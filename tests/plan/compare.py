@@ -98,7 +98,7 @@ def main():
     stored, made = outputs(tables, 3), outputs(random, 5)
     for path, given, expected in stored:
         if printed(at_level(simulator, "plan"), given, path.name) != expected:
-            fail(f"{path}: not what the second simulator prints")
+            fail(f"{path}: not what the second simulator prints. To make it anew: tests/stored")
     print(f"the second simulator prints the {len(stored)} stored outputs")
     for path, given, expected in stored + made:
         same(printed([plan], given, path.name), expected, path.name, "all bytes at once")
