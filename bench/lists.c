@@ -118,8 +118,10 @@ unsigned long each_call(const char *name, on_call *call)
         } else if (strcmp(line, "image") == 0) {
             read_bytes(&image, rest);
             images++;
-        } else if (strcmp(line, "level") != 0 || strcmp(rest, LEVEL) != 0) {
-            list_fail("not of the form, or of another level");
+        } else if (strcmp(line, "level") != 0) {
+            list_fail("a call that is not known here");
+        } else if (strcmp(rest, LEVEL) != 0) {
+            list_fail("of another level than tests/level has");
         }
     }
     fclose(file);

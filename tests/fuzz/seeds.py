@@ -227,7 +227,10 @@ def of_the_simulator(simulator):
 
 def of_a_line(words):
     """A call of a list: CALL ARGUMENTS REPLY-BEFORE -> and what it gave."""
-    which = ['advance', 'offer', 'quote', 'open'].index(words[0])
+    calls = ['advance', 'offer', 'quote', 'open']
+    if words[0] not in calls:
+        sys.exit(f"seeds.py: the second simulator's lists have the call '{words[0]}', for which fuzz.c has no form")
+    which = calls.index(words[0])
     before = words[:words.index('->')]
     reply = b'' if before[-1] == '-' else bytes.fromhex(before[-1])
     order = b'' if which in (ADVANCE, OPEN) or before[1] == '-' else bytes.fromhex(before[1])
