@@ -15,11 +15,11 @@ static uint32_t ask(const uint8_t *image, size_t image_len, uint32_t serves[STAT
 {
     if (image_len != IMAGE_SIZE)
         return 2;
-    if (memcmp(image, "WMC\1\0", 5) != 0)
+    if (memcmp(image, mark_and_version, sizeof mark_and_version) != 0)
         return 3;
 
-    uint32_t n = image[5], live = image[6], clock = get4(image + 8), next = get4(image + 12);
-    if (n < 1 || n > STATIONS || live > ORDERS || image[7] != 0 || clock > LAST_TICK)
+    uint32_t n = image[STATION_COUNT_AT], live = image[LIVE_COUNT_AT], clock = get4(image + CLOCK_AT), next = get4(image + NEXT_AT);
+    if (n < 1 || n > STATIONS || live > ORDERS || image[HEADER_ZERO_AT] != 0 || clock > LAST_TICK)
         return 4;
     const struct limits l = limits_for((uint16_t)n);
 
@@ -30,41 +30,41 @@ static uint32_t ask(const uint8_t *image, size_t image_len, uint32_t serves[STAT
         serves[j] = NOBODY;
     const uint8_t *record = image + RECORDS_AT;
     for (uint32_t k = 0; k < live; k++, record += RECORD_SIZE) {
-        uint32_t ticket = get4(record + TICKET), accepted = get4(record + ACCEPTED), due = get4(record + DUE), sum = get4(record + SUM);
-        uint32_t station = get4(record + STATION); /* its byte and three zero bytes */
-        if (ticket <= before || accepted > clock || due <= accepted || due - accepted > MOST_DUE_IN || due > LAST_TICK)
+        uint32_t ticket = get4(record + TICKET_AT), accepted = get4(record + ACCEPTED_AT), due = get4(record + DUE_AT), sum = get4(record + SUM_AT);
+        uint32_t station = get4(record + STATION_AT); /* its byte and three zero bytes */
+        if (ticket <= before || accepted > clock || due <= accepted || due - accepted > MAX_DUE_IN || due > LAST_TICK)
             return 4;
-        if (station < 1 || station > n || get4(record + TAIL) != 0)
+        if (station < 1 || station > n || get4(record + RECORD_ZERO_AT) != 0)
             return 4;
         before = ticket;
-        ranks |= get8(record + RANKS);
+        ranks |= get8(record + RANKS_AT);
 
         uint16_t costs[STATIONS], maxima[STATIONS], most = sum < UINT16_MAX ? (uint16_t)sum : UINT16_MAX; /* a cost is at most the sum */
-        memcpy(costs, record + COSTS, sizeof costs);
-        memcpy(maxima, record + MAXIMA, sizeof maxima);
+        memcpy(costs, record + COSTS_AT, sizeof costs);
+        memcpy(maxima, record + MAXIMA_AT, sizeof maxima);
         NOT_UNROLLED
         for (int j = 0; j < STATIONS; j++)
             flaws[j] |= (costs[j] < l.least[j]) | (costs[j] > most) | (maxima[j] < costs[j]) | (maxima[j] > l.most[j]);
         if ((int64_t)(due - accepted) - sum < counted(maxima, &l))
             return 4;
 
-        const uint8_t *entry = image + ENTRIES_AT + ENTRY_SIZE * (station - 1);
+        const uint8_t *entry = image + SERVICES_AT + SERVICE_SIZE * (station - 1);
         uint32_t turn = k, *first = &serves[station - 1];
-        if (get4(entry) != ticket)
-            turn += PLACES * (record[RANKS + station - 1] + 1u);
+        if (get4(entry + SERVED_AT) != ticket)
+            turn += PLACES * (record[RANKS_AT + station - 1] + 1u);
         *first = turn < *first ? turn : *first;
     }
     if ((next != 0 && before >= next) || largest(flaws) != 0 || !ranks_fit(ranks, n))
         return 4;
     for (uint32_t j = 0; j < STATIONS; j++) {
-        uint64_t entry = get8(image + ENTRIES_AT + ENTRY_SIZE * j);
+        uint64_t entry = get8(image + SERVICES_AT + SERVICE_SIZE * j);
         if (entry == 0)
             continue;
         /* It serves a live order that is at it, with ticks to go. */
         if (serves[j] >= PLACES)
             return 4;
         uint64_t left = entry >> 32; /* its two bytes and two zero bytes */
-        if (left < 1 || left > get2(image + RECORDS_AT + RECORD_SIZE * serves[j] + COSTS + 2 * j))
+        if (left < 1 || left > get2(image + RECORDS_AT + RECORD_SIZE * serves[j] + COSTS_AT + 2 * j))
             return 4;
     }
     static const uint8_t unused[ORDERS * RECORD_SIZE];
@@ -76,22 +76,22 @@ static uint32_t ask(const uint8_t *image, size_t image_len, uint32_t serves[STAT
 /* One tick at station j + 1 for the order with this turn. Gives its record if it is out, or NULL. */
 static uint8_t *serve(uint8_t *image, uint32_t j, uint32_t turn)
 {
-    uint8_t *entry = image + ENTRIES_AT + ENTRY_SIZE * j, *record = image + RECORDS_AT + RECORD_SIZE * (turn % PLACES);
-    uint16_t left = turn < PLACES ? get2(entry + 4) : get2(record + COSTS + 2 * j);
+    uint8_t *entry = image + SERVICES_AT + SERVICE_SIZE * j, *record = image + RECORDS_AT + RECORD_SIZE * (turn % PLACES);
+    uint16_t left = turn < PLACES ? get2(entry + LEFT_AT) : get2(record + COSTS_AT + 2 * j);
     left--;
-    put4(entry, left > 0 ? get4(record + TICKET) : 0);
-    put2(entry + 4, left);
+    put4(entry + SERVED_AT, left > 0 ? get4(record + TICKET_AT) : 0);
+    put2(entry + LEFT_AT, left);
     if (left > 0)
         return NULL;
-    if (j + 1 == image[5])
+    if (j + 1 == image[STATION_COUNT_AT])
         return record;
-    record[STATION]++;
+    record[STATION_AT]++;
     return NULL;
 }
 
 static void take_out(uint8_t *image, uint8_t *record)
 {
-    uint8_t *last = image + RECORDS_AT + RECORD_SIZE * --image[6];
+    uint8_t *last = image + RECORDS_AT + RECORD_SIZE * --image[LIVE_COUNT_AT];
     memmove(record, record + RECORD_SIZE, (size_t)(last - record));
     memset(last, 0, RECORD_SIZE);
 }
@@ -108,15 +108,15 @@ uint32_t plain_advance(uint8_t *image, size_t image_len, uint8_t *reply, size_t 
             if (serves[j] != NOBODY)
                 leaves = serve(image, j, serves[j]); /* the last station is asked last */
         if (leaves != NULL) {
-            out = get4(leaves + TICKET);
+            out = get4(leaves + TICKET_AT);
             take_out(image, leaves);
         }
-        clock = get4(image + 8) + 1;
-        put4(image + 8, clock);
+        clock = get4(image + CLOCK_AT) + 1;
+        put4(image + CLOCK_AT, clock);
     }
-    put4(reply, number);
-    put4(reply + 4, out);
-    put4(reply + 8, clock);
-    put4(reply + 12, 0);
+    put4(reply + REPLY_NUMBER_AT, number);
+    put4(reply + REPLY_TICKET_AT, out);
+    put4(reply + REPLY_TICK_AT, clock);
+    put4(reply + REPLY_MARGIN_AT, 0);
     return number;
 }

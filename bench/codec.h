@@ -24,7 +24,7 @@ struct cabinet {
     struct order orders[ORDERS]; /* zero from `live` on */
 };
 
-/* The live count of the image is at most 32. */
+/* The live count of the image is at most MAX_LIVE. */
 void decode(struct cabinet *cabinet, const uint8_t image[IMAGE_SIZE]);
 
 /* Writes all bytes of the image. */

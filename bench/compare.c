@@ -5,7 +5,7 @@
  * buffer, and must give the same number, reply and image, all bytes of it; and these must be what the simulator wrote.
  *
  * The first difference ends the program with status 1, and so do lists that show too little: each number of each call, done offers at every number of live
- * orders from 0 to 31, done advances at every number from 0 to 32, and orders out at every number from 1 to 32. */
+ * orders with which one more is accepted, done advances at every number of them, and orders out at every number but 0. */
 #include "contenders.h"
 #include "dispatcher.h"
 #include "lists.h"
@@ -90,10 +90,10 @@ static void compare_call(const struct listed *l, struct bytes *image)
 
     seen[l->call][library->number]++;
     if (library->number == 0 && l->call == OFFER)
-        offers_at[image->at[6]]++;
+        offers_at[image->at[LIVE_COUNT_AT]]++;
     if (library->number == 0 && l->call == ADVANCE) {
-        advances_at[image->at[6]]++;
-        outs_at[image->at[6]] += get4(library->reply.at + 4) != 0;
+        advances_at[image->at[LIVE_COUNT_AT]]++;
+        outs_at[image->at[LIVE_COUNT_AT]] += get4(library->reply.at + REPLY_TICKET_AT) != 0;
     }
     *image = library->image;
 }
@@ -131,9 +131,9 @@ int main(int argc, char **argv)
         }
     }
     printf("\n");
-    lacking |= lacks("done offers", offers_at, 0, 31);
-    lacking |= lacks("done advances", advances_at, 0, 32);
-    lacking |= lacks("orders out", outs_at, 1, 32);
+    lacking |= lacks("done offers", offers_at, 0, ORDERS - 1);
+    lacking |= lacks("done advances", advances_at, 0, ORDERS);
+    lacking |= lacks("orders out", outs_at, 1, ORDERS);
     if (lacking) {
         printf("the lists show too little: a number or a number of live orders is missing\n");
         return 1;

@@ -5,11 +5,6 @@
 #include "counter.h"
 #include "records.h"
 
-#define DEFAULT_DUE_IN 18000
-
-/* Where the fields of an order block are. */
-enum { BLOCK_DUE_IN = 0, BLOCK_RANKS = 4, BLOCK_COSTS = 12 };
-
 /* A newcomer at the counter. */
 struct newcomer {
     uint32_t ticket; /* this and tick are 0 unless it is accepted */
@@ -38,17 +33,17 @@ static uint32_t consider(const uint8_t *image, size_t image_len, const uint8_t *
     c->margin = 0;
     if (image_len != IMAGE_SIZE)
         return 2;
-    if (memcmp(image, "WMC\1\0", 5) != 0)
+    if (memcmp(image, mark_and_version, sizeof mark_and_version) != 0)
         return 3;
 
-    uint32_t n = image[5], live = image[6], clock = get4(image + 8), next = get4(image + 12);
-    if (n < 1 || n > STATIONS || live > ORDERS || image[7] != 0 || clock > LAST_TICK)
+    uint32_t n = image[STATION_COUNT_AT], live = image[LIVE_COUNT_AT], clock = get4(image + CLOCK_AT), next = get4(image + NEXT_AT);
+    if (n < 1 || n > STATIONS || live > ORDERS || image[HEADER_ZERO_AT] != 0 || clock > LAST_TICK)
         return 4;
     const struct limits l = limits_for((uint16_t)n);
 
     memset(c->costs, 0, sizeof c->costs);
-    if (order_len == ORDER_SIZE)
-        memcpy(c->costs, order + BLOCK_COSTS, sizeof c->costs);
+    if (order_len == BLOCK_SIZE)
+        memcpy(c->costs, order + BLOCK_COSTS_AT, sizeof c->costs);
     c->largest = largest(c->costs);
     c->sum = c->largest;
     memcpy(c->maxima, c->costs, sizeof c->maxima);
@@ -60,26 +55,26 @@ static uint32_t consider(const uint8_t *image, size_t image_len, const uint8_t *
     uint16_t flaws[STATIONS] = {0}; /* not 0 where a cost or a maximum of some record is out of range */
     const uint8_t *record = image + RECORDS_AT;
     for (uint32_t k = 0; k < live; k++, record += RECORD_SIZE) {
-        uint32_t ticket = get4(record + TICKET), accepted = get4(record + ACCEPTED), due = get4(record + DUE), sum = get4(record + SUM);
-        uint32_t station = get4(record + STATION); /* its byte and three zero bytes */
-        if (ticket <= before || accepted > clock || due <= accepted || due - accepted > MOST_DUE_IN || due > LAST_TICK)
+        uint32_t ticket = get4(record + TICKET_AT), accepted = get4(record + ACCEPTED_AT), due = get4(record + DUE_AT), sum = get4(record + SUM_AT);
+        uint32_t station = get4(record + STATION_AT); /* its byte and three zero bytes */
+        if (ticket <= before || accepted > clock || due <= accepted || due - accepted > MAX_DUE_IN || due > LAST_TICK)
             return 4;
-        if (station < 1 || station > n || get4(record + TAIL) != 0)
+        if (station < 1 || station > n || get4(record + RECORD_ZERO_AT) != 0)
             return 4;
         before = ticket;
-        ranks |= get8(record + RANKS);
+        ranks |= get8(record + RANKS_AT);
 
-        const uint8_t *entry = image + ENTRIES_AT + ENTRY_SIZE * (station - 1);
-        if (get4(entry) == ticket) {
-            uint16_t left = get2(entry + 4);
-            if (left < 1 || left > get2(record + COSTS + 2 * (station - 1)))
+        const uint8_t *entry = image + SERVICES_AT + SERVICE_SIZE * (station - 1);
+        if (get4(entry + SERVED_AT) == ticket) {
+            uint16_t left = get2(entry + LEFT_AT);
+            if (left < 1 || left > get2(record + COSTS_AT + 2 * (station - 1)))
                 return 4;
             served |= 1u << (station - 1);
         }
 
         uint16_t costs[STATIONS], maxima[STATIONS], joined[STATIONS];
-        memcpy(costs, record + COSTS, sizeof costs);
-        memcpy(maxima, record + MAXIMA, sizeof maxima);
+        memcpy(costs, record + COSTS_AT, sizeof costs);
+        memcpy(maxima, record + MAXIMA_AT, sizeof maxima);
         NOT_UNROLLED
         for (int j = 0; j < STATIONS; j++) {
             flaws[j] |= (costs[j] < l.least[j]) | (maxima[j] < costs[j]) | (maxima[j] > l.most[j]);
@@ -98,7 +93,7 @@ static uint32_t consider(const uint8_t *image, size_t image_len, const uint8_t *
     if ((next != 0 && before >= next) || largest(flaws) != 0 || !ranks_fit(ranks, n))
         return 4;
     for (uint32_t j = 0; j < STATIONS; j++) {
-        uint64_t entry = get8(image + ENTRIES_AT + ENTRY_SIZE * j);
+        uint64_t entry = get8(image + SERVICES_AT + SERVICE_SIZE * j);
         if (entry != 0 && ((served >> j & 1) == 0 || entry >> 48 != 0))
             return 4;
     }
@@ -106,12 +101,12 @@ static uint32_t consider(const uint8_t *image, size_t image_len, const uint8_t *
     if (memcmp(record, unused, (ORDERS - live) * RECORD_SIZE) != 0)
         return 4;
 
-    if (order_len != ORDER_SIZE)
+    if (order_len != BLOCK_SIZE)
         return 5;
-    if (!costs_fit(c->costs, &l) || !ranks_fit(get8(order + BLOCK_RANKS), n))
+    if (!costs_fit(c->costs, &l) || !ranks_fit(get8(order + BLOCK_RANKS_AT), n))
         return 6;
-    uint32_t due_in = get4(order + BLOCK_DUE_IN);
-    if (due_in > MOST_DUE_IN)
+    uint32_t due_in = get4(order + BLOCK_DUE_IN_AT);
+    if (due_in > MAX_DUE_IN)
         return 7;
     if (due_in == 0)
         due_in = DEFAULT_DUE_IN;
@@ -139,35 +134,35 @@ static uint32_t consider(const uint8_t *image, size_t image_len, const uint8_t *
 /* Writes the newcomer into an image that has been considered and takes it. */
 static void accept(uint8_t *image, const uint8_t *order, const struct newcomer *c)
 {
-    uint32_t live = image[6];
+    uint32_t live = image[LIVE_COUNT_AT];
     uint8_t *record = image + RECORDS_AT;
     for (uint32_t k = 0; k < live; k++, record += RECORD_SIZE) {
         uint16_t maxima[STATIONS];
-        memcpy(maxima, record + MAXIMA, sizeof maxima);
+        memcpy(maxima, record + MAXIMA_AT, sizeof maxima);
         NOT_UNROLLED
         for (int j = 0; j < STATIONS; j++)
             maxima[j] = larger(maxima[j], c->costs[j]);
-        memcpy(record + MAXIMA, maxima, sizeof maxima);
-        put4(record + SUM, get4(record + SUM) + c->largest);
+        memcpy(record + MAXIMA_AT, maxima, sizeof maxima);
+        put4(record + SUM_AT, get4(record + SUM_AT) + c->largest);
     }
-    put4(record + TICKET, c->ticket);
-    put4(record + ACCEPTED, c->accepted);
-    put4(record + DUE, c->due);
-    put4(record + SUM, c->sum);
-    record[STATION] = 1;
-    memcpy(record + RANKS, order + BLOCK_RANKS, STATIONS);
-    memcpy(record + COSTS, c->costs, sizeof c->costs);
-    memcpy(record + MAXIMA, c->maxima, sizeof c->maxima);
-    image[6] = (uint8_t)(live + 1);
-    put4(image + 12, c->ticket + 1); /* after the last ticket 0 */
+    put4(record + TICKET_AT, c->ticket);
+    put4(record + ACCEPTED_AT, c->accepted);
+    put4(record + DUE_AT, c->due);
+    put4(record + SUM_AT, c->sum);
+    record[STATION_AT] = 1;
+    memcpy(record + RANKS_AT, order + BLOCK_RANKS_AT, STATIONS);
+    memcpy(record + COSTS_AT, c->costs, sizeof c->costs);
+    memcpy(record + MAXIMA_AT, c->maxima, sizeof c->maxima);
+    image[LIVE_COUNT_AT] = (uint8_t)(live + 1);
+    put4(image + NEXT_AT, c->ticket + 1); /* after the last ticket 0 */
 }
 
 static uint32_t answer(uint8_t *reply, uint32_t number, const struct newcomer *c)
 {
-    put4(reply, number);
-    put4(reply + 4, c->ticket);
-    put4(reply + 8, c->tick);
-    put4(reply + 12, (uint32_t)c->margin);
+    put4(reply + REPLY_NUMBER_AT, number);
+    put4(reply + REPLY_TICKET_AT, c->ticket);
+    put4(reply + REPLY_TICK_AT, c->tick);
+    put4(reply + REPLY_MARGIN_AT, (uint32_t)c->margin);
     return number;
 }
 

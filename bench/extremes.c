@@ -3,10 +3,6 @@
 
 #include <stdio.h>
 
-#define LAST_TICK 4000000000u
-#define MOST_COST 6000
-#define MOST_DUE_IN 60000
-
 enum spread { SPREAD, AT_FIRST, AT_LAST, SPREADS };
 enum serving { IDLE, BUSY, LEAVING, SERVINGS };
 enum figures { SMALL, LARGEST, FIGURES };
@@ -36,11 +32,11 @@ static void make_image(struct extreme *e, int n, int live, enum spread spread, e
     c.next = end == NO_TICKET ? 0 : end == CLOCK_ENDED ? UINT32_MAX : 1000 + (uint32_t)live;
     for (int i = live - 1; i >= 0; i--) {
         struct order *o = &c.orders[i];
-        uint16_t cost = figures == SMALL ? 100 : MOST_COST;
+        uint16_t cost = figures == SMALL ? 100 : MAX_COST;
         o->ticket = end == NO_TICKET ? UINT32_MAX - (uint32_t)(live - 1 - i) : 1000 + (uint32_t)i;
-        o->due = end == CLOCK_ENDED ? LAST_TICK : c.clock + MOST_DUE_IN - (uint32_t)(live - i);
-        o->accepted = o->due - MOST_DUE_IN;
-        o->sum = figures == SMALL ? 100 * (uint32_t)live : MOST_DUE_IN - (uint32_t)(n - 1) * MOST_COST;
+        o->due = end == CLOCK_ENDED ? LAST_TICK : c.clock + MAX_DUE_IN - (uint32_t)(live - i);
+        o->accepted = o->due - MAX_DUE_IN;
+        o->sum = figures == SMALL ? 100 * (uint32_t)live : MAX_DUE_IN - (uint32_t)(n - 1) * MAX_COST;
         o->station = station_of(spread, i, live, n);
         for (int j = 0; j < n; j++) {
             o->ranks[j] = (uint8_t)(equal ? 7 : 255 - i);
@@ -62,14 +58,14 @@ static void make_image(struct extreme *e, int n, int live, enum spread spread, e
 #define ORDER_KINDS 4
 static void make_block(uint8_t *order, int n, int kind)
 {
-    memset(order, 0, ORDER_SIZE);
-    put4(order, kind == 1 ? 99 : kind == 3 ? MOST_DUE_IN + 1 : MOST_DUE_IN);
+    memset(order, 0, BLOCK_SIZE);
+    put4(order + BLOCK_DUE_IN_AT, kind == 1 ? 99 : kind == 3 ? MAX_DUE_IN + 1 : MAX_DUE_IN);
     for (int j = 0; j < n; j++) {
-        order[4 + j] = 7;
-        put2(order + 12 + 2 * j, 100);
+        order[BLOCK_RANKS_AT + j] = 7;
+        put2(order + BLOCK_COSTS_AT + 2 * j, 100);
     }
     if (kind == 2)
-        put2(order + 12 + 2 * (n - 1), MOST_COST + 1);
+        put2(order + BLOCK_COSTS_AT + 2 * (n - 1), MAX_COST + 1);
 }
 
 unsigned long each_sound(visit *visit)
@@ -95,7 +91,7 @@ unsigned long each_damaged(visit *visit)
     static const struct {
         int n, live;
         enum serving serving;
-    } bases[] = {{8, 32, BUSY}, {8, 31, IDLE}, {8, 1, BUSY}, {8, 0, IDLE}, {1, 32, BUSY}, {5, 16, LEAVING}};
+    } bases[] = {{STATIONS, ORDERS, BUSY}, {STATIONS, ORDERS - 1, IDLE}, {STATIONS, 1, BUSY}, {STATIONS, 0, IDLE}, {1, ORDERS, BUSY}, {5, 16, LEAVING}};
     static struct extreme base, e;
     unsigned long count = 0;
     for (size_t b = 0; b < sizeof bases / sizeof *bases; b++) {

@@ -7,7 +7,7 @@
 
 struct extreme {
     char what[160]; /* in words */
-    uint8_t image[IMAGE_SIZE], order[ORDER_SIZE];
+    uint8_t image[IMAGE_SIZE], order[BLOCK_SIZE];
 };
 
 typedef void visit(const struct extreme *extreme);

@@ -9,7 +9,7 @@ void sound_image(uint8_t *image, int live)
 {
     struct cabinet c;
     memset(&c, 0, sizeof c);
-    c.n = 8;
+    c.n = STATIONS;
     c.live = (uint8_t)live;
     c.clock = 123456789;
     c.next = 4000000000u + (uint32_t)live;
@@ -17,13 +17,13 @@ void sound_image(uint8_t *image, int live)
         struct order *o = &c.orders[i];
         o->ticket = 4000000000u - 7 + (uint32_t)i;
         o->accepted = c.clock - 1000 + (uint32_t)i;
-        o->due = o->accepted + 60000 - (uint32_t)i;
+        o->due = o->accepted + MAX_DUE_IN - (uint32_t)i;
         o->sum = 9000 + 100 * (uint32_t)i;
         o->station = (uint8_t)(1 + i / 4);
         for (int j = 0; j < STATIONS; j++) {
             o->ranks[j] = (uint8_t)(37 * i + 11 * j);
-            o->costs[j] = (uint16_t)(1 + (1237 * i + 311 * j) % 6000);
-            o->maxima[j] = 6000;
+            o->costs[j] = (uint16_t)(1 + (1237 * i + 311 * j) % MAX_COST);
+            o->maxima[j] = MAX_COST;
         }
         if (i % 4 == 0) {
             c.services[i / 4].ticket = o->ticket;
@@ -35,10 +35,10 @@ void sound_image(uint8_t *image, int live)
 
 void make_order(uint8_t *order, int i)
 {
-    put4(order, 60000);
+    put4(order + BLOCK_DUE_IN_AT, MAX_DUE_IN);
     for (int j = 0; j < STATIONS; j++) {
-        order[4 + j] = (uint8_t)(37 * i + 11 * j);
-        put2(order + 12 + 2 * j, (uint16_t)(50 + (37 * i + 61 * j) % 151));
+        order[BLOCK_RANKS_AT + j] = (uint8_t)(37 * i + 11 * j);
+        put2(order + BLOCK_COSTS_AT + 2 * j, (uint16_t)(50 + (37 * i + 61 * j) % 151));
     }
 }
 
@@ -48,12 +48,12 @@ void counter_image(uint8_t *image, uint8_t *order, int live)
     uint32_t number = dispatcher_open(image, IMAGE_SIZE, STATIONS, reply, REPLY_SIZE);
     for (int i = 0; i < live; i++) {
         make_order(order, i);
-        number += dispatcher_offer(image, IMAGE_SIZE, order, ORDER_SIZE, reply, REPLY_SIZE);
+        number += dispatcher_offer(image, IMAGE_SIZE, order, BLOCK_SIZE, reply, REPLY_SIZE);
         for (int k = 0; k < 600 / live; k++)
             number += dispatcher_advance(image, IMAGE_SIZE, reply, REPLY_SIZE);
     }
-    if (number != 0 || image[6] != live) {
-        printf("%d orders were to be live, and %d are\n", live, image[6]);
+    if (number != 0 || image[LIVE_COUNT_AT] != live) {
+        printf("%d orders were to be live, and %d are\n", live, image[LIVE_COUNT_AT]);
         exit(1);
     }
     make_order(order, live);
@@ -63,7 +63,7 @@ void tick_image(uint8_t *image, int live, uint16_t left, uint16_t last_left)
 {
     struct cabinet c;
     memset(&c, 0, sizeof c);
-    c.n = 8;
+    c.n = STATIONS;
     c.live = (uint8_t)live;
     c.clock = 123456789;
     c.next = 1000 + (uint32_t)live;
@@ -71,16 +71,16 @@ void tick_image(uint8_t *image, int live, uint16_t left, uint16_t last_left)
         struct order *o = &c.orders[i];
         o->ticket = 1000 + (uint32_t)i;
         o->accepted = c.clock - 1000 + (uint32_t)i;
-        o->due = o->accepted + 60000;
+        o->due = o->accepted + MAX_DUE_IN;
         o->sum = 200 * (uint32_t)live;
-        o->station = (uint8_t)(8 - 8 * i / live);
+        o->station = (uint8_t)(STATIONS - STATIONS * i / live);
         for (int j = 0; j < STATIONS; j++) {
             o->ranks[j] = (uint8_t)(37 * i + 11 * j);
             o->costs[j] = (uint16_t)(50 + (37 * i + 61 * j) % 151);
             o->maxima[j] = 200;
         }
         struct service *s = &c.services[o->station - 1];
-        s->left = o->station < 8 ? left : last_left;
+        s->left = o->station < STATIONS ? left : last_left;
         s->ticket = s->left > 0 ? o->ticket : 0;
     }
     encode(image, &c);

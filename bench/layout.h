@@ -1,22 +1,15 @@
-/* Sizes of document 01's image, and numbers in its bytes. For machines that store numbers low byte first, as the image does, so that a number is copied as it
- * stands: with gcc this is faster than putting it together from bytes. */
+/* The figures of document 01 by their names, and numbers in the bytes of an image. For machines that store numbers low byte first, as the image does, so that a
+ * number is copied as it stands: with gcc this is faster than putting it together from bytes. */
 #ifndef LAYOUT_H
 #define LAYOUT_H
+
+#include "../tests/layout.h"
 
 #include <stdint.h>
 #include <string.h>
 
-#define IMAGE_SIZE 2128
-#define ORDER_SIZE 28
-#define REPLY_SIZE 16
-#define STATIONS 8
-#define ORDERS 32
-
-/* Where the station entries and the records begin, and how long each of them is. */
-#define ENTRIES_AT 16
-#define ENTRY_SIZE 8
-#define RECORDS_AT 80
-#define RECORD_SIZE 64
+#define STATIONS MAX_STATIONS
+#define ORDERS MAX_LIVE
 
 static inline uint16_t get2(const uint8_t *at)
 {

@@ -4,6 +4,11 @@
 #include <stdlib.h>
 #include <string.h>
 
+/* The level that the first line of a list has to tell: that of tests/level, which the scripts give to the compiler. */
+#ifndef LEVEL
+#error "-DLEVEL is missing, the level of tests/level as a string"
+#endif
+
 const char *const call_names[CALLS] = {"open", "quote", "offer", "advance"};
 
 static const char *file_name;
@@ -113,8 +118,10 @@ unsigned long each_call(const char *name, on_call *call)
         } else if (strcmp(line, "image") == 0) {
             read_bytes(&image, rest);
             images++;
-        } else if (strcmp(line, "level") != 0 || strcmp(rest, "0") != 0) {
-            list_fail("not of the form");
+        } else if (strcmp(line, "level") != 0) {
+            list_fail("a call that is not known here");
+        } else if (strcmp(rest, LEVEL) != 0) {
+            list_fail("of another level than tests/level has");
         }
     }
     fclose(file);

@@ -13,7 +13,7 @@
  * An open, an offer or an advance that is done changes the image, so all copies are put back after every 8 calls. Putting back is not in the time, and the time
  * of reading the clock around the 8 calls is taken off.
  *
- * probe_recode also tests the length and the live count at its entry. These two comparisons cost next to nothing beside 2,128 bytes read and written, and
+ * probe_recode also tests the length and the live count at its entry. These two comparisons cost next to nothing beside an image read and written, and
  * are not taken off. */
 #include "contenders.h"
 #include "dispatcher.h"
@@ -63,11 +63,11 @@ RECODE_BY(clang)
     } \
     static uint32_t name##_quote(uint8_t *image, const uint8_t *order) \
     { \
-        return quote_call(image, IMAGE_SIZE, order, ORDER_SIZE, reply, REPLY_SIZE); \
+        return quote_call(image, IMAGE_SIZE, order, BLOCK_SIZE, reply, REPLY_SIZE); \
     } \
     static uint32_t name##_offer(uint8_t *image, const uint8_t *order) \
     { \
-        return offer_call(image, IMAGE_SIZE, order, ORDER_SIZE, reply, REPLY_SIZE); \
+        return offer_call(image, IMAGE_SIZE, order, BLOCK_SIZE, reply, REPLY_SIZE); \
     } \
     static uint32_t name##_advance(uint8_t *image, const uint8_t *order) \
     { \
@@ -95,7 +95,7 @@ struct table {
     work *works[RUNNERS];
     int batch, count;
     struct {
-        uint8_t image[IMAGE_SIZE], order[ORDER_SIZE];
+        uint8_t image[IMAGE_SIZE], order[BLOCK_SIZE];
         uint32_t number;
     } subjects[MOST_SUBJECTS];
     char labels[MOST_SUBJECTS][64];
@@ -169,7 +169,7 @@ static void say_each(const struct table *t, int a, int b, int c, int live_a, int
 static void codec(void)
 {
     static struct table t = {"decode and encode", {library_recode, gcc_recode, clang_recode, copy_image}, .batch = ROUND_CALLS};
-    static const int live[] = {0, 8, 16, 32};
+    static const int live[] = {0, 8, 16, ORDERS};
     uint8_t image[IMAGE_SIZE];
 
     for (t.count = 0; t.count < 4; t.count++) {
@@ -186,7 +186,7 @@ static void codec(void)
             x = x * 6364136223846793005u + 1442695040888963407u;
             image[i] = (uint8_t)(x >> 56);
         }
-        image[6] = (uint8_t)(k % 33);
+        image[LIVE_COUNT_AT] = (uint8_t)(k % (ORDERS + 1));
         compare(&t, image, NULL, 0, "random bytes");
     }
     printf("decode and encode: same bytes on 200 images of random bytes (seed %lu)\n", (unsigned long)seed);
@@ -204,7 +204,7 @@ static void open_calls(void)
 /* Quote or offer, by the works of a table that is otherwise empty. */
 static void counter(struct table *t)
 {
-    static const int live[] = {0, 8, 16, 31, 32};
+    static const int live[] = {0, 8, 16, ORDERS - 1, ORDERS};
     for (t->count = 0; t->count < 5; t->count++) {
         int k = t->count, full = live[k] == ORDERS;
         counter_image(t->subjects[k].image, t->subjects[k].order, live[k]);
@@ -212,7 +212,7 @@ static void counter(struct table *t)
         sprintf(t->labels[k], "%d, %s", live[k], full ? "declined (10)" : "accepted (0)");
     }
     time_table(t);
-    say_each(t, 0, 2, 3, 0, 16, 31);
+    say_each(t, 0, 2, 3, 0, 16, ORDERS - 1);
 }
 
 static void advance(void)
@@ -238,13 +238,13 @@ static void advance(void)
             tick_image(image, live, ticks[k].left, ticks[k].last_left);
             sprintf(t.labels[t.count], "%d, %s", live, ticks[k].happens);
             memcpy(after, image, IMAGE_SIZE);
-            if (library_advance(after, NULL) != 0 || after[6] != live - ticks[k].out) {
-                printf("advance, %s: %d live orders after it\n", t.labels[t.count], after[6]);
+            if (library_advance(after, NULL) != 0 || after[LIVE_COUNT_AT] != live - ticks[k].out) {
+                printf("advance, %s: %d live orders after it\n", t.labels[t.count], after[LIVE_COUNT_AT]);
                 exit(1);
             }
         }
     time_table(&t);
-    say_each(&t, 0, 5, 9, 0, 16, 32);
+    say_each(&t, 0, 5, 9, 0, 16, ORDERS);
 }
 
 int main(int argc, char **argv)

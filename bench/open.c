@@ -9,9 +9,9 @@ static uint32_t make(uint8_t *image, size_t image_len, uint32_t stations)
     if (stations < 1 || stations > STATIONS)
         return 14;
     memset(image, 0, IMAGE_SIZE);
-    memcpy(image, "WMC\1\0", 5);
-    image[5] = (uint8_t)stations;
-    put4(image + 12, 1);
+    memcpy(image, mark_and_version, sizeof mark_and_version);
+    image[STATION_COUNT_AT] = (uint8_t)stations;
+    put4(image + NEXT_AT, 1);
     return 0;
 }
 
@@ -21,6 +21,6 @@ uint32_t plain_open(uint8_t *image, size_t image_len, uint32_t stations, uint8_t
         return 1;
     uint32_t number = make(image, image_len, stations);
     memset(reply, 0, REPLY_SIZE);
-    put4(reply, number);
+    put4(reply + REPLY_NUMBER_AT, number);
     return number;
 }

@@ -10,10 +10,10 @@ static uint32_t larger(uint32_t a, uint32_t b)
 
 static int in_range(const struct task *t, uint32_t n)
 {
-    if (t->period < 1 || t->period > 60000 || t->deadline < 1 || t->deadline > t->period)
+    if (t->period < 1 || t->period > MAX_PERIOD || t->deadline < 1 || t->deadline > t->period)
         return 0;
     for (uint32_t k = 0; k < n; k++)
-        if (t->costs[k] < 1 || t->costs[k] > 6000)
+        if (t->costs[k] < 1 || t->costs[k] > MAX_COST)
             return 0;
     return 1;
 }

@@ -2,11 +2,14 @@
 #ifndef PLAN_H
 #define PLAN_H
 
+#include "../tests/layout.h"
+
 #include <stddef.h>
 #include <stdint.h>
 
 #define TASKS 32
-#define COSTS 8
+#define COSTS MAX_STATIONS
+#define MAX_PERIOD 60000
 #define MAX_INPUT 16384
 #define MAX_OUTPUT 1024
 

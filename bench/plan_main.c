@@ -1,4 +1,4 @@
-/* plan_main TABLES MOST INPUT..: plan of the library (libplan_probe.a) beside the plain C of plan.c, as gcc and as clang compile it.
+/* plan_main TABLES MOST INPUT..: plan of the library (libprobe.a) beside the plain C of plan.c, as gcc and as clang compile it.
  *
  * First all three must print the same for each INPUT, and what the second simulator printed (the file beside it that ends in .out): the first difference ends
  * the program with status 1. Then they are timed as timing.h says, in nanoseconds for one plan of 32 tasks at 8 stations:
@@ -67,12 +67,12 @@ static void make_table(struct subject *s, int kind)
     char *text = (char *)s->text;
     size_t at = (size_t)sprintf(text, "8\n");
     for (unsigned i = 0; i < TASKS; i++) {
-        unsigned period = kind == 1 && i < 3 ? 40 + i : 60000 - 7 * i;
+        unsigned period = kind == 1 && i < 3 ? 40 + i : MAX_PERIOD - 7 * i;
         unsigned deadline = kind == 2 ? 10 : kind == 1 && i < 3 ? 40 : 50000;
         at += (size_t)sprintf(text + at, "%u %u", period, deadline);
         for (unsigned k = 0; k < COSTS; k++) {
             unsigned cost = kind == 1 ? (i < 3 ? 11 : 1 + (5 * i + k) % 90) : 1 + (37 * i + 11 * k) % 150;
-            at += (size_t)sprintf(text + at, " %u", kind == 3 && i == TASKS - 1 && k == COSTS - 1 ? 6001 : cost);
+            at += (size_t)sprintf(text + at, " %u", kind == 3 && i == TASKS - 1 && k == COSTS - 1 ? MAX_COST + 1u : cost);
         }
         at += (size_t)sprintf(text + at, "\n");
     }

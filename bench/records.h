@@ -14,17 +14,10 @@
 #define NOT_UNROLLED _Pragma("GCC unroll 1")
 #endif
 
-#define MOST_COST 6000
-#define MOST_DUE_IN 60000
-#define LAST_TICK 4000000000u
-
-/* Where the fields of a record are. */
-enum { TICKET = 0, ACCEPTED = 4, DUE = 8, SUM = 12, STATION = 16, RANKS = 20, COSTS = 28, MAXIMA = 44, TAIL = 60 };
-
 /* What may stand at each place of a row of eight in a cabinet of N stations. */
 struct limits {
     uint16_t least[STATIONS];   /* of costs: 1, beyond N 0 */
-    uint16_t most[STATIONS];    /* of costs and maxima: 6,000, beyond N 0 */
+    uint16_t most[STATIONS];    /* of costs and maxima: MAX_COST, beyond N 0 */
     uint16_t counted[STATIONS]; /* all ones before N, where maxima count in a delay sum; 0 from N on */
 };
 
@@ -34,7 +27,7 @@ static inline struct limits limits_for(uint16_t n)
     NOT_UNROLLED
     for (uint16_t j = 0; j < STATIONS; j++) {
         l.least[j] = j < n ? 1 : 0;
-        l.most[j] = j < n ? MOST_COST : 0;
+        l.most[j] = j < n ? MAX_COST : 0;
         l.counted[j] = j + 1 < n ? 0xffff : 0;
     }
     return l;

@@ -28,7 +28,7 @@ struct subject {
     char what[200];
     int call;
     uint32_t stations, number; /* `number` is what the call gives */
-    uint8_t image[IMAGE_SIZE], order[ORDER_SIZE], reply[REPLY_SIZE];
+    uint8_t image[IMAGE_SIZE], order[BLOCK_SIZE], reply[REPLY_SIZE];
     double took; /* the best of a few */
 };
 
@@ -75,12 +75,12 @@ static double time_call(struct subject *s, int cold)
         break;
     case QUOTE:
         before = counter_before();
-        s->number = quote(image, IMAGE_SIZE, s->order, ORDER_SIZE, reply, REPLY_SIZE);
+        s->number = quote(image, IMAGE_SIZE, s->order, BLOCK_SIZE, reply, REPLY_SIZE);
         after = counter_after();
         break;
     case OFFER:
         before = counter_before();
-        s->number = offer(image, IMAGE_SIZE, s->order, ORDER_SIZE, reply, REPLY_SIZE);
+        s->number = offer(image, IMAGE_SIZE, s->order, BLOCK_SIZE, reply, REPLY_SIZE);
         after = counter_after();
         break;
     default:
@@ -116,7 +116,7 @@ static void try_extreme(const struct extreme *e)
     static struct subject s;
     memcpy(s.what, e->what, sizeof e->what);
     memcpy(s.image, e->image, IMAGE_SIZE);
-    memcpy(s.order, e->order, ORDER_SIZE);
+    memcpy(s.order, e->order, BLOCK_SIZE);
     for (s.call = QUOTE; s.call <= ADVANCE; s.call++)
         try_call(&s);
 }
@@ -138,12 +138,12 @@ static void try_listed(const struct listed *l, struct bytes *listed_image)
     static struct subject s;
     static struct bytes after;
     uint32_t number;
-    if (listed_image->length == IMAGE_SIZE && l->reply.length == REPLY_SIZE && (l->call == OPEN || l->call == ADVANCE || l->argument.length == ORDER_SIZE)) {
+    if (listed_image->length == IMAGE_SIZE && l->reply.length == REPLY_SIZE && (l->call == OPEN || l->call == ADVANCE || l->argument.length == BLOCK_SIZE)) {
         s.call = l->call;
         s.stations = l->stations;
         strcpy(s.what, "a list of the second simulator");
         memcpy(s.image, listed_image->at, IMAGE_SIZE);
-        memcpy(s.order, l->argument.at, ORDER_SIZE);
+        memcpy(s.order, l->argument.at, BLOCK_SIZE);
         memcpy(s.reply, l->reply.at, REPLY_SIZE);
         try_call(&s);
     }

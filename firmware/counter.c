@@ -2,6 +2,7 @@
 #define _POSIX_C_SOURCE 200809L
 #include "counter.h"
 #include "bytes.h"
+#include "text.h"
 
 #include <errno.h>
 #include <string.h>
@@ -50,7 +51,7 @@ static const char *read_order(struct request *request, const char *at)
     for (unsigned j = 0; *at != '\0'; j++) {
         uint32_t rank, cost;
         if (j == DISPATCHER_MAX_STATIONS)
-            return "an order has at most 8 stations";
+            return "an order has at most " TEXT(DISPATCHER_MAX_STATIONS) " stations";
         if (!word(&at, " ") || !number(&at, UINT8_MAX, &rank) || !word(&at, ":") || !number(&at, UINT16_MAX, &cost))
             return "a station is RANK:COST, a rank of at most 255 and a cost of at most 65535";
         request->order[DISPATCHER_ORDER_RANKS_AT + j] = (uint8_t)rank;

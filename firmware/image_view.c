@@ -1,23 +1,24 @@
-/* image_view.c: see image_view.h. The table has N at 5, the live count at 6, the clock at 8 and the next ticket at 12; from 16 on eight station entries of 8
- * bytes; and from 80 on 32 records of 64 bytes, the live ones first. */
+/* image_view.c: see image_view.h. */
 #include "image_view.h"
 #include "bytes.h"
+#include "image_layout.h"
 
 struct image_view view_image(const uint8_t *image)
 {
-    return (struct image_view){.stations = image[5], .live = image[6], .clock = get4(image + 8), .next_ticket = get4(image + 12)};
+    return (struct image_view){
+        .stations = image[STATION_COUNT_AT], .live = image[LIVE_COUNT_AT], .clock = get4(image + CLOCK_AT), .next_ticket = get4(image + NEXT_AT)};
 }
 
 struct station_view view_station(const uint8_t *image, unsigned station)
 {
-    const uint8_t *entry = image + 16 + 8 * (station - 1);
-    return (struct station_view){.ticket = get4(entry), .left = get2(entry + 4)};
+    const uint8_t *entry = image + SERVICE(station - 1);
+    return (struct station_view){.ticket = get4(entry + SERVED_AT), .left = get2(entry + LEFT_AT)};
 }
 
 struct order_view view_order(const uint8_t *image, unsigned order)
 {
-    const uint8_t *record = image + 80 + 64 * order;
-    return (struct order_view){.ticket = get4(record), .due = get4(record + 8), .station = record[16]};
+    const uint8_t *record = image + RECORD(order);
+    return (struct order_view){.ticket = get4(record + TICKET_AT), .due = get4(record + DUE_AT), .station = record[STATION_AT]};
 }
 
 static int waits(const uint8_t *image, uint32_t ticket, unsigned station)

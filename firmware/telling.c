@@ -5,6 +5,7 @@
 #include "dispatcher.h"
 #include "image_view.h"
 #include "stop.h"
+#include "text.h"
 
 #include <errno.h>
 #include <inttypes.h>
@@ -17,20 +18,20 @@ const char *in_words(uint32_t number)
 {
     static const char *const words[] = {
         [DISPATCHER_DONE] = "done",
-        [DISPATCHER_BAD_REPLY_LENGTH] = "the reply is not 16 bytes long",
-        [DISPATCHER_BAD_IMAGE_LENGTH] = "the image is not 2128 bytes long",
+        [DISPATCHER_BAD_REPLY_LENGTH] = "the reply is not " TEXT(DISPATCHER_REPLY_SIZE) " bytes long",
+        [DISPATCHER_BAD_IMAGE_LENGTH] = "the image is not " TEXT(DISPATCHER_IMAGE_SIZE) " bytes long",
         [DISPATCHER_BAD_MARK] = "these bytes are no image, or one of another version",
         [DISPATCHER_BAD_IMAGE] = "the image contradicts itself: it has been damaged",
-        [DISPATCHER_BAD_ORDER_LENGTH] = "the order block is not 28 bytes long",
-        [DISPATCHER_BAD_ORDER] = "a cost is not 1 to 6000, or a station that is not there has a cost or rank",
-        [DISPATCHER_BAD_DUE_IN] = "the due-in is above 60000",
+        [DISPATCHER_BAD_ORDER_LENGTH] = "the order block is not " TEXT(DISPATCHER_ORDER_SIZE) " bytes long",
+        [DISPATCHER_BAD_ORDER] = "a cost is not 1 to " TEXT(DISPATCHER_MAX_COST) ", or a station that is not there has a cost or rank",
+        [DISPATCHER_BAD_DUE_IN] = "the due-in is above " TEXT(DISPATCHER_MAX_DUE_IN),
         [DISPATCHER_DUE_TOO_FAR] = "the order would be due after the clock's last tick",
         [DISPATCHER_NO_TICKET] = "all tickets have been given",
-        [DISPATCHER_FULL] = "32 orders are live",
+        [DISPATCHER_FULL] = TEXT(DISPATCHER_MAX_LIVE) " orders are live",
         [DISPATCHER_LATE] = "the order would be late",
         [DISPATCHER_DELAYS_OTHERS] = "the order would make a live order late",
         [DISPATCHER_CLOCK_ENDED] = "the clock stands at its last tick",
-        [DISPATCHER_BAD_STATIONS] = "the number of stations is not 1 to 8",
+        [DISPATCHER_BAD_STATIONS] = "the number of stations is not 1 to " TEXT(DISPATCHER_MAX_STATIONS),
     };
     return number < sizeof words / sizeof *words ? words[number] : "document 01 has no such number";
 }

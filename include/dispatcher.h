@@ -28,10 +28,10 @@
  *
  * An order is offered as a block of DISPATCHER_ORDER_SIZE bytes (28), numbers with the low byte first:
  *
- *     bytes  0 to  3   due-in: in how many ticks from now the order is due, 1 to 60,000; 0 stands for 18,000 (half an hour)
+ *     bytes  0 to  3   due-in: in how many ticks from now the order is due, 1 to DISPATCHER_MAX_DUE_IN; 0 stands for DISPATCHER_DEFAULT_DUE_IN
  *     bytes  4 to 11   eight ranks of 1 byte, for stations 1 to 8: of the orders that wait at a station the one with the smallest rank is served
  *                      first, and of equal ranks the one with the smaller ticket
- *     bytes 12 to 27   eight costs of 2 bytes, for stations 1 to 8: how many ticks the order takes there, 1 to 6,000
+ *     bytes 12 to 27   eight costs of 2 bytes, for stations 1 to 8: how many ticks the order takes there, 1 to DISPATCHER_MAX_COST
  *
  * Ranks and costs of stations that the cabinet does not have are 0.
  *
@@ -58,7 +58,7 @@
  * Each call returns a number. DISPATCHER_DONE (0) means that the call did what it is for. Any other number means that the call was declined, and
  * says why. Where more than one reason fits, the one that stands first in the description of the call is given. A call that is declined leaves
  * every byte of the image as it was. After DISPATCHER_BAD_REPLY_LENGTH (1) every byte of the reply is as it was, too; after any other number, 0
- * included, all 16 bytes of the reply are written.
+ * included, every byte of the reply is written.
  *
  * WHAT IS SAFE
  *
@@ -114,7 +114,7 @@ extern "C" {
 /* A cost is 1 to so many ticks. A due-in is 1 to so many, and 0 stands for the default. */
 #define DISPATCHER_MAX_COST 6000
 #define DISPATCHER_MAX_DUE_IN 60000
-#define DISPATCHER_DEFAULT_DUE_IN 18000
+#define DISPATCHER_DEFAULT_DUE_IN 18000 /* half an hour */
 
 /* The last tick of the clock: some twelve years and eight months after the cabinet was opened. */
 #define DISPATCHER_LAST_TICK 4000000000u
@@ -151,12 +151,12 @@ extern "C" {
  *
  * Returns the first of these that fits:
  *
- *     DISPATCHER_BAD_REPLY_LENGTH   (1)  reply_len is not 16. Nothing was written.
- *     DISPATCHER_BAD_IMAGE_LENGTH   (2)  image_len is not 2,128. The image is as it was.
- *     DISPATCHER_BAD_STATIONS      (14)  stations is not 1 to 8. The image is as it was.
- *     DISPATCHER_DONE               (0)  all 2,128 bytes of the image were written.
+ *     DISPATCHER_BAD_REPLY_LENGTH   (1)  reply_len is not DISPATCHER_REPLY_SIZE. Nothing was written.
+ *     DISPATCHER_BAD_IMAGE_LENGTH   (2)  image_len is not DISPATCHER_IMAGE_SIZE. The image is as it was.
+ *     DISPATCHER_BAD_STATIONS      (14)  stations is not 1 to DISPATCHER_MAX_STATIONS. The image is as it was.
+ *     DISPATCHER_DONE               (0)  every byte of the image was written.
  *
- * The reply holds the number, then zeros. So after DISPATCHER_DONE it is 16 zero bytes. */
+ * The reply holds the number, then zeros. So after DISPATCHER_DONE every byte of it is 0. */
 uint32_t dispatcher_open(uint8_t *image, size_t image_len, uint32_t stations, uint8_t *reply, size_t reply_len);
 
 /* Asks what dispatcher_offer would do with an order, and changes nothing in the image.
@@ -177,16 +177,17 @@ uint32_t dispatcher_quote(const uint8_t *image, size_t image_len, const uint8_t 
  *
  * Returns the first of these that fits:
  *
- *     DISPATCHER_BAD_REPLY_LENGTH   (1)  reply_len is not 16. Nothing was written.
- *     DISPATCHER_BAD_IMAGE_LENGTH   (2)  image_len is not 2,128.
+ *     DISPATCHER_BAD_REPLY_LENGTH   (1)  reply_len is not DISPATCHER_REPLY_SIZE. Nothing was written.
+ *     DISPATCHER_BAD_IMAGE_LENGTH   (2)  image_len is not DISPATCHER_IMAGE_SIZE.
  *     DISPATCHER_BAD_MARK           (3)  the image does not begin with the mark and version that dispatcher_open writes.
  *     DISPATCHER_BAD_IMAGE          (4)  the image contradicts itself.
- *     DISPATCHER_BAD_ORDER_LENGTH   (5)  order_len is not 28.
- *     DISPATCHER_BAD_ORDER          (6)  a cost of a station that the cabinet has is not 1 to 6,000, or a cost or rank of one that it does not have is not 0.
- *     DISPATCHER_BAD_DUE_IN         (7)  the due-in is above 60,000.
- *     DISPATCHER_DUE_TOO_FAR        (8)  the due tick would be above 4,000,000,000.
+ *     DISPATCHER_BAD_ORDER_LENGTH   (5)  order_len is not DISPATCHER_ORDER_SIZE.
+ *     DISPATCHER_BAD_ORDER          (6)  a cost of a station that the cabinet has is not 1 to DISPATCHER_MAX_COST, or a cost or rank of one that it does not
+ *                                        have is not 0.
+ *     DISPATCHER_BAD_DUE_IN         (7)  the due-in is above DISPATCHER_MAX_DUE_IN.
+ *     DISPATCHER_DUE_TOO_FAR        (8)  the due tick would be above DISPATCHER_LAST_TICK.
  *     DISPATCHER_NO_TICKET          (9)  no ticket is left.
- *     DISPATCHER_FULL              (10)  32 orders are live.
+ *     DISPATCHER_FULL              (10)  DISPATCHER_MAX_LIVE orders are live.
  *     DISPATCHER_LATE              (11)  the order would be late. The margin is below zero.
  *     DISPATCHER_DELAYS_OTHERS     (12)  the order would be on time, but a live order would be late. The margin is below zero.
  *     DISPATCHER_DONE               (0)  the order is accepted, and the image was changed.
@@ -217,11 +218,11 @@ uint32_t dispatcher_offer(uint8_t *image, size_t image_len, const uint8_t *order
  *
  * Returns the first of these that fits:
  *
- *     DISPATCHER_BAD_REPLY_LENGTH   (1)  reply_len is not 16. Nothing was written.
- *     DISPATCHER_BAD_IMAGE_LENGTH   (2)  image_len is not 2,128.
+ *     DISPATCHER_BAD_REPLY_LENGTH   (1)  reply_len is not DISPATCHER_REPLY_SIZE. Nothing was written.
+ *     DISPATCHER_BAD_IMAGE_LENGTH   (2)  image_len is not DISPATCHER_IMAGE_SIZE.
  *     DISPATCHER_BAD_MARK           (3)  the image does not begin with the mark and version that dispatcher_open writes.
  *     DISPATCHER_BAD_IMAGE          (4)  the image contradicts itself.
- *     DISPATCHER_CLOCK_ENDED       (13)  the clock stands at 4,000,000,000.
+ *     DISPATCHER_CLOCK_ENDED       (13)  the clock stands at DISPATCHER_LAST_TICK.
  *     DISPATCHER_DONE               (0)  one tick has passed, and the image was changed.
  *
  * An image that dispatcher_open made, that only calls of this header have changed, and that is lent whole, never gets 2, 3 or 4, nor 13 while an order

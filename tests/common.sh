@@ -1,10 +1,17 @@
-# Read by the scripts of tests/gate and by bench/run, which stand in the root of the repository.
+# Read by the scripts of tests/ and bench/, which stand in the root of the repository.
 # Everything that they build is under target/, which `rt ci` removes. Scripts may run at the same time: a lock is held while rt builds.
 
 die() {
     echo "$*"
     exit 1
 }
+
+# The level at which the second simulator is compared: how many requests of document 02 have landed. It stands in tests/level, and nowhere else.
+level=$(cat tests/level)
+[[ $level =~ ^[0-9]+$ ]] || die "tests/level has no level of the second simulator, but '$level'"
+
+# The Python tests read modules of tests/, and nothing is written beside these.
+export PYTHONDONTWRITEBYTECODE=1
 
 # need COMMAND WHY: the script goes no further without it.
 need() {
@@ -26,6 +33,11 @@ need_package() {
 # The archives that rt writes, and the programs, are for x86-64.
 need_x86_64() {
     [ "$(uname -m)" = x86_64 ] || die "this test runs code of the library, which is for x86-64; this machine is $(uname -m)"
+}
+
+# header_figure NAME: the figure that include/dispatcher.h has for DISPATCHER_NAME.
+header_figure() {
+    sed -nE "s/^#define DISPATCHER_$1 ([0-9]+)u?( .*)?$/\1/p" include/dispatcher.h
 }
 
 # newer_than_sources FILE: FILE is there and no source of a crate was changed after it was made.
@@ -70,7 +82,32 @@ build_simulator() {
     flock -u 9
 }
 
-# build_comparison PROGRAM: a program of tests/compare, after build_simulator and static_library dispatcher and plan_probe. `comparison` is the one with the
+# simulated WORD ..: the simulator's program at the level of tests/level, after build_simulator.
+simulated() {
+    "$simulate" --level "$level" "$@"
+}
+
+# simulator_archive FILE: the simulator behind the calls of include/dispatcher.h, as the archive FILE, after build_simulator. What is linked with it needs
+# `beside_archive`, too.
+beside_archive=(-lpthread -ldl -lm)
+simulator_archive() {
+    # Nobody else makes it meanwhile.
+    exec 9> target/second-simulator.lock
+    flock 9
+    "$simulator/make-stub.sh" "$level" > "$1.log" 2>&1 || { cat "$1.log"; die "the second simulator is not built as a C library"; }
+    cp "$simulator/stub/lib-$level/libdispatcher.a" "$1" || die "the second simulator's C library is not where it should be"
+    flock -u 9
+}
+
+# linked_by_simulator SOURCE PROGRAM: a C program whose calls the simulator answers. PROGRAM.o is there as well, to be linked with another dispatcher. After
+# build_simulator.
+linked_by_simulator() {
+    simulator_archive "$2.a"
+    gcc -std=c11 -O2 -Wall -Wextra -Werror -pedantic -c -o "$2.o" "$1" || die "$1 does not compile"
+    gcc -o "$2" "$2.o" "$2.a" "${beside_archive[@]}" || die "$1 does not link with the second simulator"
+}
+
+# build_comparison PROGRAM: a program of tests/compare, after build_simulator and static_library dispatcher and probe. `comparison` is the one with the
 # library as it is, and "$comparison-faulty" the one that tests/compare/faults has put behind faults.
 comparison=target/compare/release/compare
 build_comparison() {
@@ -85,5 +122,5 @@ build_comparison() {
 # harness MODE ..: the simulator's harness on libdispatcher.a, after build_simulator and static_library dispatcher. No call is left to the simulator.
 harness() {
     # It is built first, and nobody copies the simulator meanwhile.
-    flock target/second-simulator.lock env -u DISPATCHER_WITHOUT "$simulator/run-harness.sh" 0 "$PWD/target/staticlib" "$@"
+    flock target/second-simulator.lock env -u DISPATCHER_WITHOUT "$simulator/run-harness.sh" "$level" "$PWD/target/staticlib" "$@"
 }

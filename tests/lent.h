@@ -7,6 +7,8 @@
 #define LENT_H
 
 #define _DEFAULT_SOURCE
+#include "../firmware/bytes.h"
+
 #include <signal.h>
 #include <stddef.h>
 #include <stdint.h>
@@ -135,23 +137,6 @@ static inline void fill(uint8_t *bytes, size_t length, int p)
 {
     for (size_t i = 0; i < length; i++)
         bytes[i] = pattern(p, i);
-}
-
-static inline uint32_t word(const uint8_t *at)
-{
-    return (uint32_t)at[0] | (uint32_t)at[1] << 8 | (uint32_t)at[2] << 16 | (uint32_t)at[3] << 24;
-}
-
-static inline void put2(uint8_t *at, uint32_t value)
-{
-    at[0] = (uint8_t)value;
-    at[1] = (uint8_t)(value >> 8);
-}
-
-static inline void put4(uint8_t *at, uint32_t value)
-{
-    put2(at, value);
-    put2(at + 2, value >> 16);
 }
 
 #endif

@@ -1,12 +1,10 @@
 /* dispatcher_quote and dispatcher_offer as a C program calls them, through include/dispatcher.h and libdispatcher.a.
  *
  * It compares with document 01: its counter examples as far as they need no advance, every number from 1 to 12 and the order of the questions, the bytes of
- * reply and image after each call, and what is left alone. What to expect is worked out by hand from document 01, written out here or in image.h and taken
- * from nowhere else. Each pair of a quote and an offer is made with the buffers at several places. The image of a quote and the order block are read only. The
- * first check that does not hold ends the program with what was called. */
+ * reply and image after each call, and what is left alone. What to expect is worked out by hand from document 01, written out here or in image.h, with the
+ * places of ../layout.h, and taken from nowhere else. Each pair of a quote and an offer is made with the buffers at several places. The image of a quote and
+ * the order block are read only. The first check that does not hold ends the program with what was called. */
 #include "image.h"
-
-#include "dispatcher.h"
 
 /* The order block that the next calls get. */
 static uint8_t order[ROOM / 2];
@@ -18,7 +16,7 @@ static unsigned long seen[2][13]; /* quotes and offers, by number */
 static void block(uint32_t due_in, const uint8_t *ranks, const uint16_t *costs)
 {
     memset(order, 0, sizeof order);
-    order_length = 28;
+    order_length = BLOCK_SIZE;
     put_block(order, due_in, ranks, costs);
 }
 
@@ -28,7 +26,7 @@ enum { QUOTE, OFFER };
 
 static void one_call(int call, const char *name, int place, uint32_t number, uint32_t ticket, uint32_t tick, int32_t margin)
 {
-    uint8_t reply_before[ROOM / 2], expected[16];
+    uint8_t reply_before[ROOM / 2], expected[REPLY_SIZE];
     int odd = place % 2;
     sprintf(what, "%s: %s, image of %lu bytes, order of %lu, reply of %lu, place %d", call == QUOTE ? "quote" : "offer", name, (unsigned long)image_length,
             (unsigned long)order_length, (unsigned long)reply_length, place);
@@ -48,10 +46,10 @@ static void one_call(int call, const char *name, int place, uint32_t number, uin
     unseal(&order_lent);
 
     /* "The reply holds number (0 for done), ticket, tick, margin (signed), 4 bytes each"; "After 1 the reply is untouched." */
-    put4(expected, number);
-    put4(expected + 4, call == QUOTE ? 0 : ticket);
-    put4(expected + 8, tick);
-    put4(expected + 12, (uint32_t)margin);
+    put4(expected + REPLY_NUMBER_AT, number);
+    put4(expected + REPLY_TICKET_AT, call == QUOTE ? 0 : ticket);
+    put4(expected + REPLY_TICK_AT, tick);
+    put4(expected + REPLY_MARGIN_AT, (uint32_t)margin);
     expect_bytes(&reply_lent, number == 1 ? reply_before : expected, "reply");
     expect_bytes(&image_lent, call == OFFER && number == 0 ? after : image, "image");
     expect_bytes(&order_lent, order, "order");
@@ -76,13 +74,13 @@ static void accepted(const char *name, uint32_t ticket, uint32_t tick, int32_t m
 {
     for (int place = 0; place < PLACES; place++)
         both_calls(name, place, 0, ticket, tick, margin);
-    memcpy(image, after, 2128);
+    memcpy(image, after, IMAGE_SIZE);
 }
 
 /* `after` begins as the image is. */
 static void begin_after(uint8_t live, uint32_t next)
 {
-    memcpy(after, image, 2128);
+    memcpy(after, image, IMAGE_SIZE);
     counts(after, live, next);
 }
 
@@ -141,10 +139,10 @@ static void one_station(void)
 static void eight_stations(void)
 {
     const uint16_t *costs = ROW(6000, 6000, 6000, 6000, 6000, 6000, 6000, 6000);
-    /* "N = 8, all costs 6,000: delay sum 48,000; due-in 0 gets 11." 0 stands for 18,000. */
+    /* "N = 8, all costs 6,000: delay sum 48,000; due-in 0 gets 11." 0 stands for the default. */
     fresh_image(8);
     block(0, RANKS(0), costs);
-    declined("N = 8, costs 6,000, due-in 0", 11, 18000 - 48000);
+    declined("N = 8, costs 6,000, due-in 0", 11, DEFAULT_DUE_IN - 48000);
     block(47999, RANKS(0), costs);
     declined("N = 8, costs 6,000, due-in 47,999", 11, -1);
     block(48000, RANKS(1, 2, 3, 4, 5, 6, 7, 255), costs);
@@ -180,9 +178,9 @@ static void full_cabinet(void)
     }
     block(60000, RANKS(0), ROW(1, 1, 1));
     declined("the order after these 32", 10, 0);
-    image[6] = 33;
+    image[LIVE_COUNT_AT] = 33;
     declined("live 33 of 32", 4, 0);
-    image[6] = 31;
+    image[LIVE_COUNT_AT] = 31;
     declined("live 31 of 32", 4, 0);
 }
 
@@ -238,84 +236,86 @@ static void last_station(void)
 
 static void ends_of_ranges(void)
 {
-    static const uint32_t due_ins[] = {60001, 65536, 78000, 0x80000000u, 0x80000001u, 0xffffffffu};
-    static const uint32_t costs[] = {0, 6001, 0x8001, 0xffff};
+    static const uint32_t due_ins[] = {MAX_DUE_IN + 1, 65536, MAX_DUE_IN + DEFAULT_DUE_IN, 0x80000000u, 0x80000001u, 0xffffffffu};
+    static const uint32_t costs[] = {0, MAX_COST + 1, 0x8001, 0xffff};
     for (size_t i = 0; i < sizeof due_ins / sizeof *due_ins; i++) {
         fresh_image(2);
         block(due_ins[i], RANKS(0), ROW(1, 1));
         declined("due-in out of range", 7, 0);
     }
-    for (uint8_t n = 1; n <= 8; n++) {
-        uint16_t row[8] = {0};
+    for (uint8_t n = 1; n <= MAX_STATIONS; n++) {
+        uint16_t row[MAX_STATIONS] = {0};
         for (int j = 0; j < n; j++)
-            row[j] = 6000;
+            row[j] = MAX_COST;
         fresh_image(n);
-        for (int j = 0; j < 8; j++) {
-            block(60000, RANKS(0), row);
+        for (int j = 0; j < MAX_STATIONS; j++) {
+            uint8_t *cost = order + BLOCK_COSTS_AT + 2 * j;
+            block(MAX_DUE_IN, RANKS(0), row);
             for (size_t i = 0; i < sizeof costs / sizeof *costs; i++)
                 if (j < n || costs[i] != 0) {
-                    put2(order + 12 + 2 * j, costs[i]);
+                    put2(cost, costs[i]);
                     declined("a cost out of range", 6, 0);
                 }
-            block(60000, RANKS(0), row);
+            block(MAX_DUE_IN, RANKS(0), row);
             if (j >= n) {
-                order[12 + 2 * j] = 1;
+                put2(cost, 1);
                 declined("a cost of 1 beyond N", 6, 0);
-                order[12 + 2 * j] = 0;
-                order[12 + 2 * j + 1] = 1;
+                put2(cost, 256);
                 declined("a cost of 256 beyond N", 6, 0);
-                order[12 + 2 * j + 1] = 0;
-                order[4 + j] = 1;
+                put2(cost, 0);
+                order[BLOCK_RANKS_AT + j] = 1;
                 declined("a rank beyond N", 6, 0);
             }
         }
     }
-    /* The clock's end: a due tick of 4,000,000,000 is the last. 0 stands for 18,000. */
-    empty_image(1, 4000000000u - 60000, 7);
-    block(60000, RANKS(0), ROW(2));
+    /* The clock's end: a due tick there is the last. 0 stands for the default. */
+    empty_image(1, LAST_TICK - MAX_DUE_IN, 7);
+    block(MAX_DUE_IN, RANKS(0), ROW(2));
     begin_after(1, 8);
-    record(after, 0, 7, 3999940000u, 4000000000u, 2, 1, RANKS(0), ROW(2), ROW(2));
-    accepted("due at the clock's end", 7, 3999940002u, 59998);
-    empty_image(1, 4000000000u - 59999, 7);
+    record(after, 0, 7, LAST_TICK - MAX_DUE_IN, LAST_TICK, 2, 1, RANKS(0), ROW(2), ROW(2));
+    accepted("due at the clock's end", 7, LAST_TICK - MAX_DUE_IN + 2, MAX_DUE_IN - 2);
+    empty_image(1, LAST_TICK - MAX_DUE_IN + 1, 7);
     declined("due one tick after the clock's end", 8, 0);
-    empty_image(1, 4000000000u - 18000, 7);
+    empty_image(1, LAST_TICK - DEFAULT_DUE_IN, 7);
     block(0, RANKS(0), ROW(2));
     begin_after(1, 8);
-    record(after, 0, 7, 3999982000u, 4000000000u, 2, 1, RANKS(0), ROW(2), ROW(2));
-    accepted("due-in 0 means 18,000", 7, 3999982002u, 17998);
-    empty_image(1, 4000000000u - 17999, 7);
+    record(after, 0, 7, LAST_TICK - DEFAULT_DUE_IN, LAST_TICK, 2, 1, RANKS(0), ROW(2), ROW(2));
+    accepted("due-in 0 means the default", 7, LAST_TICK - DEFAULT_DUE_IN + 2, DEFAULT_DUE_IN - 2);
+    empty_image(1, LAST_TICK - DEFAULT_DUE_IN + 1, 7);
     declined("due-in 0, one tick after the clock's end", 8, 0);
-    empty_image(1, 4000000000u, 7);
+    empty_image(1, LAST_TICK, 7);
     block(1, RANKS(0), ROW(1));
     declined("the clock's last tick", 8, 0);
     /* The last ticket is 4,294,967,295, and after it none is left. */
-    empty_image(1, 10, 4294967294u);
+    empty_image(1, 10, LAST_TICKET - 1);
     block(20, RANKS(0), ROW(2));
-    begin_after(1, 4294967295u);
-    record(after, 0, 4294967294u, 10, 30, 2, 1, RANKS(0), ROW(2), ROW(2));
-    accepted("the last ticket but one", 4294967294u, 12, 18);
+    begin_after(1, LAST_TICKET);
+    record(after, 0, LAST_TICKET - 1, 10, 30, 2, 1, RANKS(0), ROW(2), ROW(2));
+    accepted("the last ticket but one", LAST_TICKET - 1, 12, 18);
     begin_after(2, 0);
-    record(after, 0, 4294967294u, 10, 30, 4, 1, RANKS(0), ROW(2), ROW(2));
-    record(after, 1, 4294967295u, 10, 30, 4, 1, RANKS(0), ROW(2), ROW(2));
-    accepted("the last ticket", 4294967295u, 14, 16);
+    record(after, 0, LAST_TICKET - 1, 10, 30, 4, 1, RANKS(0), ROW(2), ROW(2));
+    record(after, 1, LAST_TICKET, 10, 30, 4, 1, RANKS(0), ROW(2), ROW(2));
+    accepted("the last ticket", LAST_TICKET, 14, 16);
     declined("no ticket left", 9, 0);
 }
 
 static void lengths(void)
 {
-    static const size_t reply_lengths[] = {0, 1, 15, 17, 32, 2128}, image_lengths[] = {0, 1, 16, 2127, 2129, 3152}, order_lengths[] = {0, 1, 27, 29, 56, 224};
+    static const size_t reply_lengths[] = {0, 1, REPLY_SIZE - 1, REPLY_SIZE + 1, 2 * REPLY_SIZE, IMAGE_SIZE};
+    static const size_t image_lengths[] = {0, 1, SERVICES_AT, IMAGE_SIZE - 1, IMAGE_SIZE + 1, OTHER_IMAGE_SIZE};
+    static const size_t order_lengths[] = {0, 1, BLOCK_SIZE - 1, BLOCK_SIZE + 1, 2 * BLOCK_SIZE, 8 * BLOCK_SIZE};
     fresh_image(2);
     block(20, RANKS(0), ROW(2, 3));
     for (size_t i = 0; i < 6; i++) {
         reply_length = reply_lengths[i];
         declined("length of the reply", 1, 0);
-        reply_length = 16;
+        reply_length = REPLY_SIZE;
         image_length = image_lengths[i];
         declined("length of the image", 2, 0);
-        image_length = 2128;
+        image_length = IMAGE_SIZE;
         order_length = order_lengths[i];
         declined("length of the order", 5, 0);
-        order_length = 28;
+        order_length = BLOCK_SIZE;
     }
 }
 
@@ -345,7 +345,7 @@ static void images(void)
 
     /* Just on time is sound: the due tick 950 is 500 + 300 + 150. One tick more makes it late. */
     two_waiting();
-    put4(image + 88, 950);
+    put4(image + RECORD(0) + DUE_AT, 950);
     declined("an order with no tick to spare", 12, -1);
 
     damaged_images(unsound);
@@ -353,7 +353,7 @@ static void images(void)
     empty_image(0, 0, 1);
     block(100, RANKS(0), ROW(0));
     declined("N 0, nothing live, no costs", 4, 0);
-    image[5] = 9;
+    image[STATION_COUNT_AT] = MAX_STATIONS + 1;
     block(100, RANKS(0), ROW(1, 1, 1, 1, 1, 1, 1, 1));
     declined("N 9, nothing live, costs at all stations", 4, 0);
 }
@@ -362,39 +362,39 @@ static void images(void)
  * The live orders cost 1 at each of 3 stations, have the sum 40 and no tick to spare: 40 + 1 + 1. The newcomer costs 100 at each. */
 static void first_no(void)
 {
-    uint8_t unmarked[2128], unsound[2128];
+    uint8_t unmarked[IMAGE_SIZE], unsound[IMAGE_SIZE];
     empty_image(3, 3999990000u, 0);
     counts(image, 32, 0);
     for (int k = 0; k < 32; k++)
         record(image, k, 1000 + (uint32_t)k, 3999980000u, 3999980042u, 40, 1, RANKS(0), ROW(1, 1, 1), ROW(1, 1, 1));
-    memcpy(unsound, image, 2128);
-    unsound[7] = 1;
-    memcpy(unmarked, unsound, 2128);
+    memcpy(unsound, image, IMAGE_SIZE);
+    unsound[HEADER_ZERO_AT] = 1;
+    memcpy(unmarked, unsound, IMAGE_SIZE);
     unmarked[0] = 0;
 
-    uint8_t sound[2128];
-    memcpy(sound, image, 2128);
-    memcpy(image, unmarked, 2128);
-    block(60001, RANKS(0, 0, 0, 1), ROW(100, 100, 6001));
-    reply_length = 15;
-    image_length = 2127;
-    order_length = 27;
+    uint8_t sound[IMAGE_SIZE];
+    memcpy(sound, image, IMAGE_SIZE);
+    memcpy(image, unmarked, IMAGE_SIZE);
+    block(MAX_DUE_IN + 1, RANKS(0, 0, 0, 1), ROW(100, 100, MAX_COST + 1));
+    reply_length = REPLY_SIZE - 1;
+    image_length = IMAGE_SIZE - 1;
+    order_length = BLOCK_SIZE - 1;
     declined("all wrong", 1, 0);
-    reply_length = 16;
+    reply_length = REPLY_SIZE;
     declined("from the length of the image on", 2, 0);
-    image_length = 2128;
+    image_length = IMAGE_SIZE;
     declined("from the mark on", 3, 0);
-    memcpy(image, unsound, 2128);
+    memcpy(image, unsound, IMAGE_SIZE);
     declined("from soundness on", 4, 0);
-    memcpy(image, sound, 2128);
+    memcpy(image, sound, IMAGE_SIZE);
     declined("from the length of the order on", 5, 0);
-    order_length = 28;
+    order_length = BLOCK_SIZE;
     declined("from the costs on", 6, 0);
-    block(60001, RANKS(0, 0, 0, 1), ROW(100, 100, 100));
+    block(MAX_DUE_IN + 1, RANKS(0, 0, 0, 1), ROW(100, 100, 100));
     declined("from the ranks on", 6, 0);
-    block(60001, RANKS(0), ROW(100, 100, 100));
+    block(MAX_DUE_IN + 1, RANKS(0), ROW(100, 100, 100));
     declined("from the due-in on", 7, 0);
-    block(60000, RANKS(0), ROW(100, 100, 100));
+    block(MAX_DUE_IN, RANKS(0), ROW(100, 100, 100));
     declined("from the due tick on", 8, 0);
     block(1, RANKS(0), ROW(100, 100, 100));
     declined("from the tickets on", 9, 0);
@@ -402,7 +402,7 @@ static void first_no(void)
     declined("from the live orders on", 10, 0);
     /* With 31 live orders: 100 + 31 and 100 for stations 1 and 2 are 331. A live order has 140 + 200 of 42 then. */
     counts(image, 31, 1032);
-    memset(image + 80 + 64 * 31, 0, 64);
+    no_record(image, 31);
     declined("from the newcomer's due tick on", 11, 1 - 331);
     block(330, RANKS(0), ROW(100, 100, 100));
     declined("newcomer late by one tick", 11, 42 - 340);
@@ -410,9 +410,9 @@ static void first_no(void)
     declined("live orders late", 12, 42 - 340);
     /* The last live order alone would be late: the others have 340, and it has 339. */
     for (int k = 0; k < 31; k++)
-        put4(image + 80 + 64 * k + 8, 3999980000u + (k == 30 ? 339 : 340));
+        put4(image + RECORD(k) + DUE_AT, 3999980000u + (k == 30 ? 339 : 340));
     declined("the last live order late", 12, -1);
-    put4(image + 80 + 64 * 30 + 8, 3999980000u + 340);
+    put4(image + RECORD(30) + DUE_AT, 3999980000u + 340);
     begin_after(32, 1033);
     for (int k = 0; k < 31; k++)
         record(after, k, 1000 + (uint32_t)k, 3999980000u, 3999980340u, 140, 1, RANKS(0), ROW(1, 1, 1), ROW(100, 100, 100));
@@ -426,16 +426,8 @@ int main(void)
     make_room(&order_lent);
     make_room(&reply_lent);
 
-    /* The header's constants are the paper's numbers. */
+    /* The header's numbers are the paper's. Its sizes and limits are compared in tests/gate/layout. */
     strcpy(what, "reading the header");
-    CHECK(DISPATCHER_ORDER_SIZE == 28);
-    CHECK(DISPATCHER_ORDER_DUE_IN_AT == 0 && DISPATCHER_ORDER_RANKS_AT == 4 && DISPATCHER_ORDER_COSTS_AT == 12);
-    CHECK(DISPATCHER_REPLY_NUMBER_AT == 0 && DISPATCHER_REPLY_TICKET_AT == 4 && DISPATCHER_REPLY_TICK_AT == 8 && DISPATCHER_REPLY_MARGIN_AT == 12);
-    CHECK(DISPATCHER_MAX_LIVE == 32);
-    CHECK(DISPATCHER_MAX_COST == 6000);
-    CHECK(DISPATCHER_MAX_DUE_IN == 60000);
-    CHECK(DISPATCHER_DEFAULT_DUE_IN == 18000);
-    CHECK(DISPATCHER_LAST_TICK == 4000000000u);
     CHECK(DISPATCHER_BAD_MARK == 3 && DISPATCHER_BAD_IMAGE == 4 && DISPATCHER_BAD_ORDER_LENGTH == 5 && DISPATCHER_BAD_ORDER == 6);
     CHECK(DISPATCHER_BAD_DUE_IN == 7 && DISPATCHER_DUE_TOO_FAR == 8 && DISPATCHER_NO_TICKET == 9 && DISPATCHER_FULL == 10);
     CHECK(DISPATCHER_LATE == 11 && DISPATCHER_DELAYS_OTHERS == 12);

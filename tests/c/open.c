@@ -1,11 +1,11 @@
 /* dispatcher_open as a C program calls it, through include/dispatcher.h and libdispatcher.a.
  *
  * It compares with document 01: the numbers of questions 1, 2 and 14 and their order, the bytes of a fresh image ("The image") and of the reply, and what
- * is left alone. These are written out here and taken from nowhere else. Every buffer is filled beforehand with several patterns. The first check that does not
- * hold ends the program with what was called. */
+ * is left alone. These are written out here, with the places of ../layout.h, and taken from nowhere else. Every buffer is filled beforehand with several
+ * patterns. The first check that does not hold ends the program with what was called. */
 #include "../lent.h"
 
-#include "dispatcher.h"
+#include "../layout.h"
 
 static struct buffer image, reply;
 
@@ -25,22 +25,19 @@ static void one_call(size_t image_length, uint32_t stations, size_t reply_length
         expect_bytes(&reply, reply_before, "reply");
     } else {
         /* "number (0 for done), ticket, tick, margin (signed), 4 bytes each"; "open gives zeros" */
-        uint8_t expected[16] = {0};
-        expected[0] = (uint8_t)number;
+        uint8_t expected[REPLY_SIZE] = {0};
+        put4(expected + REPLY_NUMBER_AT, number);
         expect_bytes(&reply, expected, "reply");
     }
 
     if (number != 0) {
         expect_bytes(&image, image_before, "image");
     } else {
-        /* "a fresh image (clock 0, next ticket 1)": mark WMC, version 1, N, live count 0, and nothing else but the next ticket. */
-        uint8_t expected[2128] = {0};
-        expected[0] = 0x57;
-        expected[1] = 0x4d;
-        expected[2] = 0x43;
-        expected[3] = 1;
-        expected[5] = (uint8_t)stations;
-        expected[12] = 1;
+        /* "a fresh image (clock 0, next ticket 1)": mark WMC, version, N, live count 0, and nothing else but the next ticket. */
+        uint8_t expected[IMAGE_SIZE] = {0x57, 0x4d, 0x43};
+        put2(expected + VERSION_AT, VERSION);
+        expected[STATION_COUNT_AT] = (uint8_t)stations;
+        put4(expected + NEXT_AT, 1);
         expect_bytes(&image, expected, "image");
     }
 }
@@ -48,19 +45,16 @@ static void one_call(size_t image_length, uint32_t stations, size_t reply_length
 int main(void)
 {
     /* Right and wrong values of each argument. */
-    static const size_t image_lengths[] = {2128, 0, 1, 16, 2127, 2129, 4096};
+    static const size_t image_lengths[] = {IMAGE_SIZE, 0, 1, SERVICES_AT, IMAGE_SIZE - 1, IMAGE_SIZE + 1, 4096};
     static const uint32_t stations[] = {1, 2, 3, 4, 5, 6, 7, 8, 0, 9, 255, 256, 257, 264, 65537, 0x80000001u, 0xffffffffu};
-    static const size_t reply_lengths[] = {16, 0, 1, 15, 17, 2128};
+    static const size_t reply_lengths[] = {REPLY_SIZE, 0, 1, REPLY_SIZE - 1, REPLY_SIZE + 1, IMAGE_SIZE};
     unsigned long seen[15] = {0};
 
     make_room(&image);
     make_room(&reply);
 
-    /* The header's constants are the paper's numbers. */
+    /* The header's numbers are the paper's. Its sizes and limits are compared in tests/gate/layout. */
     strcpy(what, "reading the header");
-    CHECK(DISPATCHER_IMAGE_SIZE == 2128);
-    CHECK(DISPATCHER_REPLY_SIZE == 16);
-    CHECK(DISPATCHER_MAX_STATIONS == 8);
     CHECK(DISPATCHER_DONE == 0);
     CHECK(DISPATCHER_BAD_REPLY_LENGTH == 1);
     CHECK(DISPATCHER_BAD_IMAGE_LENGTH == 2);
@@ -72,11 +66,11 @@ int main(void)
             for (size_t r = 0; r < sizeof reply_lengths / sizeof *reply_lengths; r++)
                 for (int p = 0; p < PATTERNS; p++) {
                     uint32_t number = 0;
-                    if (stations[s] < 1 || stations[s] > 8)
+                    if (stations[s] < 1 || stations[s] > MAX_STATIONS)
                         number = 14;
-                    if (image_lengths[i] != 2128)
+                    if (image_lengths[i] != IMAGE_SIZE)
                         number = 2;
-                    if (reply_lengths[r] != 16)
+                    if (reply_lengths[r] != REPLY_SIZE)
                         number = 1;
                     one_call(image_lengths[i], stations[s], reply_lengths[r], number, p, (int)((i + s + r + (size_t)p) % PLACES));
                     seen[number]++;

@@ -3,7 +3,8 @@
  * The calls of the library are renamed (`right_`..), and those of include/dispatcher.h stand here. They call the right ones and spoil what they give, in one
  * way, which the environment variable DISPATCHER_FAULT names by its number. Many of these faults show only at one limit. The comment behind a number is read by
  * tests/compare/faults, which prints it. */
-#include "../../include/dispatcher.h"
+#include "../../firmware/bytes.h"
+#include "../layout.h"
 
 #include <stdlib.h>
 #include <string.h>
@@ -15,7 +16,7 @@ uint32_t right_advance(uint8_t *image, size_t image_len, uint8_t *reply, size_t 
 size_t right_plan_text(const uint8_t *input, size_t input_len, uint8_t *out);
 size_t plan_probe_text(const uint8_t *input, size_t input_len, uint8_t *out);
 
-enum { IMAGE = DISPATCHER_IMAGE_SIZE, ORDER = DISPATCHER_ORDER_SIZE, REPLY = DISPATCHER_REPLY_SIZE, OUT = 1024 };
+#define OUT 1024 /* bytes that plan may write */
 
 static int fault(void)
 {
@@ -27,126 +28,111 @@ static int fault(void)
     return number;
 }
 
-static uint32_t get2(const uint8_t *at)
-{
-    return (uint32_t)at[0] | (uint32_t)at[1] << 8;
-}
-
-static uint32_t get4(const uint8_t *at)
-{
-    return get2(at) | get2(at + 2) << 16;
-}
-
-static void put2(uint8_t *at, uint32_t value)
-{
-    at[0] = (uint8_t)value;
-    at[1] = (uint8_t)(value >> 8);
-}
-
-static void put4(uint8_t *at, uint32_t value)
-{
-    put2(at, value);
-    put2(at + 2, value >> 16);
-}
-
 static uint8_t *record(uint8_t *image, unsigned k)
 {
-    return image + 80 + 64 * k;
+    return image + RECORD(k);
 }
 
 static uint8_t *entry(uint8_t *image, unsigned station)
 {
-    return image + 16 + 8 * (station - 1);
+    return image + SERVICE(station - 1);
 }
+
+/* Where a record has the figures of a station, and an order block its cost, counted from 1. */
+#define RANK_AT(station) (RANKS_AT + (station) - 1)
+#define COST_AT(station) (COSTS_AT + 2 * ((station) - 1))
+#define MAXIMUM_AT(station) (MAXIMA_AT + 2 * ((station) - 1))
+#define BLOCK_COST_AT(station) (BLOCK_COSTS_AT + 2 * ((station) - 1))
 
 static unsigned largest_cost(const uint8_t *r)
 {
     unsigned largest = 0;
-    for (unsigned j = 0; j < 8; j++)
-        if (get2(r + 28 + 2 * j) > largest)
-            largest = get2(r + 28 + 2 * j);
+    for (unsigned j = 0; j < MAX_STATIONS; j++)
+        if (get2(r + COSTS_AT + 2 * j) > largest)
+            largest = get2(r + COSTS_AT + 2 * j);
     return largest;
 }
 
 /* A decline with zeros behind its number. */
 static uint32_t declined(uint32_t number, uint8_t *reply)
 {
-    memset(reply, 0, REPLY);
-    put4(reply, number);
+    memset(reply, 0, REPLY_SIZE);
+    put4(reply + REPLY_NUMBER_AT, number);
     return number;
 }
 
 /* Makes an image sound that has one flaw which the fault does not look at. Says whether something was changed. */
 static int overlooked(uint8_t *image)
 {
-    unsigned n = image[5], live = image[6];
-    if (n < 1 || n > 8 || live > 32)
+    unsigned n = image[STATION_COUNT_AT], live = image[LIVE_COUNT_AT];
+    if (n < 1 || n > MAX_STATIONS || live > MAX_LIVE)
         return 0;
     uint8_t *last = live == 0 ? NULL : record(image, live - 1);
     switch (fault()) {
     case 1: /* the last zero byte of the last record is not looked at */
-        image[IMAGE - 1] = 0;
+        image[IMAGE_SIZE - 1] = 0;
         return 1;
     case 2: /* ticks to go may be one above the cost */
         for (unsigned j = 1; j <= n; j++)
             for (unsigned k = 0; k < live; k++)
-                if (get4(record(image, k)) == get4(entry(image, j)) && get2(entry(image, j) + 4) == get2(record(image, k) + 26 + 2 * j) + 1) {
-                    put2(entry(image, j) + 4, get2(entry(image, j) + 4) - 1);
+                if (get4(record(image, k) + TICKET_AT) == get4(entry(image, j) + SERVED_AT) &&
+                    get2(entry(image, j) + LEFT_AT) == get2(record(image, k) + COST_AT(j)) + 1) {
+                    put2(entry(image, j) + LEFT_AT, get2(entry(image, j) + LEFT_AT) - 1);
                     return 1;
                 }
         return 0;
     case 3: /* the version's high byte is not looked at */
-        image[4] = 0;
+        image[VERSION_AT + 1] = 0;
         return 1;
     case 4: /* the next ticket may be the last live one */
-        if (live > 0 && get4(image + 12) == get4(last) && get4(last) < UINT32_MAX) {
-            put4(image + 12, get4(last) + 1);
+        if (live > 0 && get4(image + NEXT_AT) == get4(last + TICKET_AT) && get4(last + TICKET_AT) < LAST_TICKET) {
+            put4(image + NEXT_AT, get4(last + TICKET_AT) + 1);
             return 1;
         }
         return 0;
     case 5: /* the last live order may be due 60,001 ticks after acceptance */
-        if (live > 0 && get4(last + 8) - get4(last + 4) == 60001) {
-            put4(last + 8, get4(last + 8) - 1);
+        if (live > 0 && get4(last + DUE_AT) - get4(last + ACCEPTED_AT) == MAX_DUE_IN + 1) {
+            put4(last + DUE_AT, get4(last + DUE_AT) - 1);
             return 1;
         }
         return 0;
     case 6: /* the largest cost at station N may be 6,001 */
         for (unsigned k = 0; k < live; k++)
-            if (get2(record(image, k) + 42 + 2 * n) == 6001) {
-                put2(record(image, k) + 42 + 2 * n, 6000);
+            if (get2(record(image, k) + MAXIMUM_AT(n)) == MAX_COST + 1) {
+                put2(record(image, k) + MAXIMUM_AT(n), MAX_COST);
                 return 1;
             }
         return 0;
     case 7: /* with one station a live order may be late by one */
         for (unsigned k = 0; n == 1 && k < live; k++)
-            if (get4(record(image, k) + 8) + 1 == get4(record(image, k) + 4) + get4(record(image, k) + 12)) {
-                put4(record(image, k) + 8, get4(record(image, k) + 8) + 1);
+            if (get4(record(image, k) + DUE_AT) + 1 == get4(record(image, k) + ACCEPTED_AT) + get4(record(image, k) + SUM_AT)) {
+                put4(record(image, k) + DUE_AT, get4(record(image, k) + DUE_AT) + 1);
                 return 1;
             }
         return 0;
     case 8: /* the clock may stand one tick behind the last */
-        if (get4(image + 8) == DISPATCHER_LAST_TICK + 1) {
-            put4(image + 8, DISPATCHER_LAST_TICK);
+        if (get4(image + CLOCK_AT) == LAST_TICK + 1) {
+            put4(image + CLOCK_AT, LAST_TICK);
             return 1;
         }
         return 0;
     case 9: /* an order may be at station N + 1 when N is 7 */
         for (unsigned k = 0; n == 7 && k < live; k++)
-            if (record(image, k)[16] == 8) {
-                record(image, k)[16] = 7;
+            if (record(image, k)[STATION_AT] == 8) {
+                record(image, k)[STATION_AT] = 7;
                 return 1;
             }
         return 0;
     case 10: /* an idle station may have ticks to go */
         for (unsigned j = 1; j <= n; j++)
-            if (get4(entry(image, j)) == 0 && get2(entry(image, j) + 4) != 0) {
-                put2(entry(image, j) + 4, 0);
+            if (get4(entry(image, j) + SERVED_AT) == 0 && get2(entry(image, j) + LEFT_AT) != 0) {
+                put2(entry(image, j) + LEFT_AT, 0);
                 return 1;
             }
         return 0;
     case 64: /* the last cost of all, at station 8 of record 32, may be 0 */
-        if (n == 8 && live == 32 && get2(last + 42) == 0) {
-            put2(last + 42, 1);
+        if (n == MAX_STATIONS && live == MAX_LIVE && get2(last + COST_AT(n)) == 0) {
+            put2(last + COST_AT(n), 1);
             return 1;
         }
         return 0;
@@ -160,27 +146,27 @@ static void misread(uint8_t *order, unsigned n, uint32_t clock)
 {
     switch (fault()) {
     case 11: /* due-in 60,001 is taken */
-        if (get4(order) == 60001)
-            put4(order, 60000);
+        if (get4(order + BLOCK_DUE_IN_AT) == MAX_DUE_IN + 1)
+            put4(order + BLOCK_DUE_IN_AT, MAX_DUE_IN);
         break;
     case 12: /* cost 6,001 is taken at station 5 */
-        if (get2(order + 20) == 6001)
-            put2(order + 20, 6000);
+        if (get2(order + BLOCK_COST_AT(5)) == MAX_COST + 1)
+            put2(order + BLOCK_COST_AT(5), MAX_COST);
         break;
     case 13: /* ranks beyond N are not looked at */
-        memset(order + 4 + n, 0, 8 - n);
+        memset(order + BLOCK_RANKS_AT + n, 0, MAX_STATIONS - n);
         break;
     case 14: /* the high byte of a cost beyond N is not looked at */
-        for (unsigned j = n; j < 8; j++)
-            order[13 + 2 * j] = 0;
+        for (unsigned j = n + 1; j <= MAX_STATIONS; j++)
+            order[BLOCK_COST_AT(j) + 1] = 0;
         break;
-    case 15: /* due-in 0 stands for 18,001 */
-        if (get4(order) == 0)
-            put4(order, 18001);
+    case 15: /* due-in 0 stands for one tick more than the default */
+        if (get4(order + BLOCK_DUE_IN_AT) == 0)
+            put4(order + BLOCK_DUE_IN_AT, DEFAULT_DUE_IN + 1);
         break;
     case 16: /* an order due at the last tick is due too far */
-        if (clock + get4(order) == DISPATCHER_LAST_TICK && get4(order) != 0)
-            put4(order, get4(order) + 1);
+        if (clock + get4(order + BLOCK_DUE_IN_AT) == LAST_TICK && get4(order + BLOCK_DUE_IN_AT) != 0)
+            put4(order + BLOCK_DUE_IN_AT, get4(order + BLOCK_DUE_IN_AT) + 1);
         break;
     default:
         break;
@@ -191,74 +177,74 @@ static void misread(uint8_t *order, unsigned n, uint32_t clock)
 static uint32_t ordered(int offer, uint8_t *image, size_t image_len, const uint8_t *order, size_t order_len, uint8_t *reply, size_t reply_len)
 {
     static unsigned long calls;
-    uint8_t before[IMAGE], read[ORDER], trial[IMAGE];
+    uint8_t before[IMAGE_SIZE], read[BLOCK_SIZE], trial[IMAGE_SIZE];
     if (fault() == 17 && order_len > 0) { /* a byte behind the order block is read */
         volatile uint8_t behind = order[order_len];
         (void)behind;
     }
-    if (fault() == 72 && !offer && image_len == IMAGE) /* quote writes the image and puts it back as it was */
-        *(volatile uint8_t *)(image + 8) = image[8];
-    if (fault() == 73 && order_len == ORDER) /* the order block is written and put back as it was */
+    if (fault() == 72 && !offer && image_len == IMAGE_SIZE) /* quote writes the image and puts it back as it was */
+        *(volatile uint8_t *)(image + CLOCK_AT) = image[CLOCK_AT];
+    if (fault() == 73 && order_len == BLOCK_SIZE) /* the order block is written and put back as it was */
         *(volatile uint8_t *)(uintptr_t)order = order[0];
-    if (reply_len != REPLY || image_len != IMAGE)
+    if (reply_len != REPLY_SIZE || image_len != IMAGE_SIZE)
         return offer ? right_offer(image, image_len, order, order_len, reply, reply_len) : right_quote(image, image_len, order, order_len, reply, reply_len);
-    memcpy(before, image, IMAGE);
-    memcpy(trial, image, IMAGE);
-    unsigned n = image[5], live = image[6];
-    uint32_t clock = get4(image + 8), next = get4(image + 12);
-    if (order_len == ORDER) {
-        memcpy(read, order, ORDER);
-        if (n <= 8)
+    memcpy(before, image, IMAGE_SIZE);
+    memcpy(trial, image, IMAGE_SIZE);
+    unsigned n = image[STATION_COUNT_AT], live = image[LIVE_COUNT_AT];
+    uint32_t clock = get4(image + CLOCK_AT), next = get4(image + NEXT_AT);
+    if (order_len == BLOCK_SIZE) {
+        memcpy(read, order, BLOCK_SIZE);
+        if (n <= MAX_STATIONS)
             misread(read, n, clock);
     }
-    const uint8_t *block = order_len == ORDER ? read : order;
-    uint32_t number = right_offer(trial, IMAGE, block, order_len, reply, REPLY);
+    const uint8_t *block = order_len == BLOCK_SIZE ? read : order;
+    uint32_t number = right_offer(trial, IMAGE_SIZE, block, order_len, reply, REPLY_SIZE);
     if ((number == 3 || number == 4) && overlooked(trial))
-        number = right_offer(trial, IMAGE, block, order_len, reply, REPLY);
-    uint32_t ticket = get4(reply + 4), due_in = order_len == ORDER ? get4(read) : 0;
-    int32_t margin = (int32_t)get4(reply + 12);
+        number = right_offer(trial, IMAGE_SIZE, block, order_len, reply, REPLY_SIZE);
+    uint32_t ticket = get4(reply + REPLY_TICKET_AT), due_in = order_len == BLOCK_SIZE ? get4(read + BLOCK_DUE_IN_AT) : 0;
+    int32_t margin = (int32_t)get4(reply + REPLY_MARGIN_AT);
     if (number == 0 && !offer)
-        put4(reply + 4, 0);
+        put4(reply + REPLY_TICKET_AT, 0);
     int accepted = number == 0 && offer;
     switch (fault()) {
     case 18: /* the margin with 12 is one too large */
         if (number == 12)
-            put4(reply + 12, (uint32_t)margin + 1);
+            put4(reply + REPLY_MARGIN_AT, (uint32_t)margin + 1);
         break;
     case 19: /* with three stations the tick is one too large */
         if (number == 0 && n == 3)
-            put4(reply + 8, get4(reply + 8) + 1);
+            put4(reply + REPLY_TICK_AT, get4(reply + REPLY_TICK_AT) + 1);
         break;
     case 20: /* at most 31 are live */
-        if (live == 31 && (number == 0 || number == 11 || number == 12))
+        if (live == MAX_LIVE - 1 && (number == 0 || number == 11 || number == 12))
             number = declined(10, reply), accepted = 0;
         break;
     case 21: /* with eight stations an order that is late by one is accepted */
-        if (number == 11 && margin == -1 && n == 8 && due_in > 0 && due_in < 60000) {
-            put4(read, due_in + 1);
-            number = right_offer(trial, IMAGE, read, ORDER, reply, REPLY);
+        if (number == 11 && margin == -1 && n == MAX_STATIONS && due_in > 0 && due_in < MAX_DUE_IN) {
+            put4(read + BLOCK_DUE_IN_AT, due_in + 1);
+            number = right_offer(trial, IMAGE_SIZE, read, BLOCK_SIZE, reply, REPLY_SIZE);
             accepted = number == 0 && offer;
         }
         break;
     case 22: /* quote says 0 where the last of 32 would make another late by one */
-        if (!offer && number == 12 && margin == -1 && live == 31)
+        if (!offer && number == 12 && margin == -1 && live == MAX_LIVE - 1)
             number = declined(0, reply);
         break;
     case 23: /* after the last ticket comes ticket 1 */
-        if (accepted && next == UINT32_MAX)
-            put4(trial + 12, 1);
+        if (accepted && next == LAST_TICKET)
+            put4(trial + NEXT_AT, 1);
         break;
     case 24: /* the last ticket is never given */
-        if (next == UINT32_MAX && (number == 0 || number >= 10))
+        if (next == LAST_TICKET && (number == 0 || number >= 10))
             number = declined(9, reply), accepted = 0;
         break;
     case 25: /* a decline by 9 changes the image */
         if (number == 9 && offer)
-            image[8] ^= 1;
+            image[CLOCK_AT] ^= 1;
         break;
     case 26: /* quote gives the ticket */
         if (number == 0 && !offer)
-            put4(reply + 4, ticket);
+            put4(reply + REPLY_TICKET_AT, ticket);
         break;
     case 27: /* quote accepts the order */
         if (number == 0)
@@ -266,46 +252,46 @@ static uint32_t ordered(int offer, uint8_t *image, size_t image_len, const uint8
         break;
     case 28: /* a byte of the order block is changed after 6 */
         if (number == 6)
-            ((uint8_t *)(uintptr_t)order)[ORDER - 1] ^= 1;
+            ((uint8_t *)(uintptr_t)order)[BLOCK_SIZE - 1] ^= 1;
         break;
     case 29: /* the smallest margin leaves out the live orders */
         if (number == 0)
-            put4(reply + 12, clock + (due_in == 0 ? 18000 : due_in) - get4(reply + 8));
+            put4(reply + REPLY_MARGIN_AT, clock + (due_in == 0 ? DEFAULT_DUE_IN : due_in) - get4(reply + REPLY_TICK_AT));
         break;
     case 30: /* with 31 live, 12 comes in place of 11 */
-        if (number == 11 && live == 31)
-            number = 12, put4(reply, 12);
+        if (number == 11 && live == MAX_LIVE - 1)
+            number = 12, put4(reply + REPLY_NUMBER_AT, 12);
         break;
     case 31: /* question 7 is asked before question 6 */
-        if (number == 6 && due_in > 60000)
+        if (number == 6 && due_in > MAX_DUE_IN)
             number = declined(7, reply);
         break;
     case 32: /* question 10 is asked before question 9 */
-        if (number == 9 && live == 32)
+        if (number == 9 && live == MAX_LIVE)
             number = declined(10, reply);
         break;
     case 33: /* the newcomer's largest cost at the last station is its own */
         if (accepted)
-            memcpy(record(trial, live) + 42 + 2 * n, record(trial, live) + 26 + 2 * n, 2);
+            memcpy(record(trial, live) + MAXIMUM_AT(n), record(trial, live) + COST_AT(n), 2);
         break;
     case 34: /* the first live order does not take the newcomer's cost at station 1 */
         if (accepted && live > 0)
-            memcpy(record(trial, 0) + 44, record(before, 0) + 44, 2);
+            memcpy(record(trial, 0) + MAXIMUM_AT(1), record(before, 0) + MAXIMUM_AT(1), 2);
         break;
     case 35: /* the byte behind the reply is written */
         if (number == 0)
-            reply[REPLY] = 0;
+            reply[REPLY_SIZE] = 0;
         break;
     case 36: /* one call in 200,000 gives another margin */
         if (++calls % 200000 == 0)
-            reply[12] ^= 1;
+            reply[REPLY_MARGIN_AT] ^= 1;
         break;
     case 62: /* the byte before the order block is written */
         if (accepted)
             ((uint8_t *)(uintptr_t)order)[-1] = 0;
         break;
     case 65: /* question 8 is asked before question 7 */
-        if (number == 7 && (uint64_t)clock + due_in > DISPATCHER_LAST_TICK)
+        if (number == 7 && (uint64_t)clock + due_in > LAST_TICK)
             number = declined(8, reply);
         break;
     case 66: /* question 9 is asked before question 8 */
@@ -317,18 +303,18 @@ static uint32_t ordered(int offer, uint8_t *image, size_t image_len, const uint8
             number = declined(8, reply), accepted = 0;
         break;
     case 37: /* question 5 is asked before question 4 */
-        if (number == 4 && order_len != ORDER)
+        if (number == 4 && order_len != BLOCK_SIZE)
             number = declined(5, reply);
         break;
     case 38: /* a decline by 12 with 31 live writes the zero byte of the header */
-        if (offer && number == 12 && live == 31)
-            image[7] ^= 1;
+        if (offer && number == 12 && live == MAX_LIVE - 1)
+            image[HEADER_ZERO_AT] ^= 1;
         break;
     default:
         break;
     }
     if (accepted)
-        memcpy(image, trial, IMAGE);
+        memcpy(image, trial, IMAGE_SIZE);
     return number;
 }
 
@@ -346,9 +332,10 @@ uint32_t dispatcher_offer(uint8_t *image, size_t image_len, const uint8_t *order
 static uint8_t *first_waiting(uint8_t *image, unsigned station)
 {
     uint8_t *best = NULL;
-    for (unsigned k = 0; k < image[6]; k++) {
+    for (unsigned k = 0; k < image[LIVE_COUNT_AT]; k++) {
         uint8_t *r = record(image, k);
-        if (r[16] == station && get4(r) != get4(entry(image, station)) && (best == NULL || r[19 + station] < best[19 + station]))
+        if (r[STATION_AT] == station && get4(r + TICKET_AT) != get4(entry(image, station) + SERVED_AT) &&
+            (best == NULL || r[RANK_AT(station)] < best[RANK_AT(station)]))
             best = r;
     }
     return best;
@@ -357,10 +344,10 @@ static uint8_t *first_waiting(uint8_t *image, unsigned station)
 /* The same, if the station is idle and another waits there with the same rank, which is not the last. */
 static uint8_t *first_of_tied(uint8_t *image, unsigned station)
 {
-    uint8_t *best = image[5] < station || get4(entry(image, station)) != 0 ? NULL : first_waiting(image, station);
-    for (unsigned k = 0; best != NULL && k < image[6]; k++) {
+    uint8_t *best = image[STATION_COUNT_AT] < station || get4(entry(image, station) + SERVED_AT) != 0 ? NULL : first_waiting(image, station);
+    for (unsigned k = 0; best != NULL && k < image[LIVE_COUNT_AT]; k++) {
         uint8_t *r = record(image, k);
-        if (r != best && r[16] == station && r[19 + station] == best[19 + station] && best[19 + station] < 255)
+        if (r != best && r[STATION_AT] == station && r[RANK_AT(station)] == best[RANK_AT(station)] && best[RANK_AT(station)] < 255)
             return best;
     }
     return NULL;
@@ -369,38 +356,38 @@ static uint8_t *first_of_tied(uint8_t *image, unsigned station)
 /* An advance in which that order lets another go first. */
 static uint32_t passed_over(uint8_t *trial, unsigned station, uint8_t *order, uint8_t *image, uint8_t *reply)
 {
-    uint32_t ticket = get4(order);
-    order[19 + station]++;
-    right_advance(trial, IMAGE, reply, REPLY);
-    for (unsigned k = 0; k < trial[6]; k++)
-        if (get4(record(trial, k)) == ticket)
-            record(trial, k)[19 + station]--;
-    memcpy(image, trial, IMAGE);
+    uint32_t ticket = get4(order + TICKET_AT);
+    order[RANK_AT(station)]++;
+    right_advance(trial, IMAGE_SIZE, reply, REPLY_SIZE);
+    for (unsigned k = 0; k < trial[LIVE_COUNT_AT]; k++)
+        if (get4(record(trial, k) + TICKET_AT) == ticket)
+            record(trial, k)[RANK_AT(station)]--;
+    memcpy(image, trial, IMAGE_SIZE);
     return 0;
 }
 
 uint32_t dispatcher_advance(uint8_t *image, size_t image_len, uint8_t *reply, size_t reply_len)
 {
-    uint8_t before[IMAGE], trial[IMAGE];
-    if (fault() == 39 && reply_len == 17) /* a reply of 17 bytes is written */
-        memset(reply, 0, REPLY);
-    if (fault() == 61 && reply_len == 15) /* the byte before a reply of 15 bytes is written */
+    uint8_t before[IMAGE_SIZE], trial[IMAGE_SIZE];
+    if (fault() == 39 && reply_len == REPLY_SIZE + 1) /* a reply that is a byte too long is written */
+        memset(reply, 0, REPLY_SIZE);
+    if (fault() == 61 && reply_len == REPLY_SIZE - 1) /* the byte before a reply that is a byte too short is written */
         reply[-1] = 0;
     if (fault() == 40 && image_len > 0) { /* a byte before the image is read */
         volatile uint8_t ahead = image[-1];
         (void)ahead;
     }
-    if (reply_len != REPLY || image_len != IMAGE)
+    if (reply_len != REPLY_SIZE || image_len != IMAGE_SIZE)
         return right_advance(image, image_len, reply, reply_len);
-    memcpy(before, image, IMAGE);
-    memcpy(trial, image, IMAGE);
-    unsigned n = image[5];
+    memcpy(before, image, IMAGE_SIZE);
+    memcpy(trial, image, IMAGE_SIZE);
+    unsigned n = image[STATION_COUNT_AT];
     uint8_t *tied;
-    int sound = right_advance(trial, IMAGE, reply, REPLY) == 0;
-    memcpy(trial, image, IMAGE);
+    int sound = right_advance(trial, IMAGE_SIZE, reply, REPLY_SIZE) == 0;
+    memcpy(trial, image, IMAGE_SIZE);
     switch (sound ? fault() : 0) {
     case 41: /* the clock goes no further than 3,999,999,999 */
-        if (get4(image + 8) == DISPATCHER_LAST_TICK - 1)
+        if (get4(image + CLOCK_AT) == LAST_TICK - 1)
             return declined(13, reply);
         break;
     case 42: /* equal ranks go by the larger ticket at station 2 */
@@ -412,86 +399,88 @@ uint32_t dispatcher_advance(uint8_t *image, size_t image_len, uint8_t *reply, si
             return passed_over(trial, 8, tied, image, reply);
         break;
     case 69: /* equal ranks go by the ticket as a signed number */
-        if ((tied = first_of_tied(trial, 1)) != NULL && get4(tied) < 0x80000000 && get4(record(trial, trial[6] - 1u)) >= 0x80000000)
+        if ((tied = first_of_tied(trial, 1)) != NULL && get4(tied + TICKET_AT) < 0x80000000 &&
+            get4(record(trial, trial[LIVE_COUNT_AT] - 1u) + TICKET_AT) >= 0x80000000)
             return passed_over(trial, 1, tied, image, reply);
         break;
     case 43: /* a better rank stops the order in service */
         for (unsigned j = 1; j <= n; j++)
-            for (unsigned k = 0; k < trial[6]; k++)
-                if (get4(entry(trial, j)) != 0 && get4(record(trial, k)) == get4(entry(trial, j)) && first_waiting(trial, j) != NULL &&
-                    first_waiting(trial, j)[19 + j] < record(trial, k)[19 + j])
-                    memset(entry(trial, j), 0, 8);
+            for (unsigned k = 0; k < trial[LIVE_COUNT_AT]; k++)
+                if (get4(entry(trial, j) + SERVED_AT) != 0 && get4(record(trial, k) + TICKET_AT) == get4(entry(trial, j) + SERVED_AT) &&
+                    first_waiting(trial, j) != NULL && first_waiting(trial, j)[RANK_AT(j)] < record(trial, k)[RANK_AT(j)])
+                    memset(entry(trial, j), 0, SERVICE_SIZE);
         break;
     case 44: /* ranks are compared as signed bytes */
-        for (unsigned k = 0; k < trial[6]; k++)
-            for (unsigned j = 0; j < n; j++)
-                record(trial, k)[20 + j] ^= 0x80;
+        for (unsigned k = 0; k < trial[LIVE_COUNT_AT]; k++)
+            for (unsigned j = 1; j <= n; j++)
+                record(trial, k)[RANK_AT(j)] ^= 0x80;
         break;
     default:
         break;
     }
-    uint32_t number = right_advance(trial, IMAGE, reply, REPLY);
+    uint32_t number = right_advance(trial, IMAGE_SIZE, reply, REPLY_SIZE);
     if ((number == 3 || number == 4) && overlooked(trial))
-        number = right_advance(trial, IMAGE, reply, REPLY);
-    uint32_t out = get4(reply + 4);
-    if (fault() == 70 && number == 4 && get4(image + 8) == DISPATCHER_LAST_TICK) /* question 13 is asked before question 4 */
+        number = right_advance(trial, IMAGE_SIZE, reply, REPLY_SIZE);
+    uint32_t out = get4(reply + REPLY_TICKET_AT);
+    if (fault() == 70 && number == 4 && get4(image + CLOCK_AT) == LAST_TICK) /* question 13 is asked before question 4 */
         number = declined(13, reply);
-    if (fault() == 52 && number == 13 && before[6] != 0) /* 13 comes only while no order is live */
+    if (fault() == 52 && number == 13 && before[LIVE_COUNT_AT] != 0) /* 13 comes only while no order is live */
         number = declined(0, reply);
     switch (number == 0 ? fault() : 0) {
     case 44:
-        for (unsigned k = 0; k < trial[6]; k++)
-            for (unsigned j = 0; j < n; j++)
-                record(trial, k)[20 + j] ^= 0x80;
+        for (unsigned k = 0; k < trial[LIVE_COUNT_AT]; k++)
+            for (unsigned j = 1; j <= n; j++)
+                record(trial, k)[RANK_AT(j)] ^= 0x80;
         break;
     case 45: /* no start at station 8 while station 1 serves */
-        if (n == 8 && get4(entry(before, 8)) == 0 && get4(entry(trial, 8)) != 0 && get4(entry(before, 1)) != 0)
-            memset(entry(trial, 8), 0, 8);
+        if (n == 8 && get4(entry(before, 8) + SERVED_AT) == 0 && get4(entry(trial, 8) + SERVED_AT) != 0 && get4(entry(before, 1) + SERVED_AT) != 0)
+            memset(entry(trial, 8), 0, SERVICE_SIZE);
         break;
     case 46: /* an order that is out leaves the companies */
-        for (unsigned k = 0; out != 0 && k < trial[6]; k++)
-            for (unsigned m = 0; m < before[6]; m++)
-                if (get4(record(before, m)) == out && get4(record(trial, k) + 12) >= largest_cost(record(trial, k)) + largest_cost(record(before, m)))
-                    put4(record(trial, k) + 12, get4(record(trial, k) + 12) - largest_cost(record(before, m)));
+        for (unsigned k = 0; out != 0 && k < trial[LIVE_COUNT_AT]; k++)
+            for (unsigned m = 0; m < before[LIVE_COUNT_AT]; m++)
+                if (get4(record(before, m) + TICKET_AT) == out &&
+                    get4(record(trial, k) + SUM_AT) >= largest_cost(record(trial, k)) + largest_cost(record(before, m)))
+                    put4(record(trial, k) + SUM_AT, get4(record(trial, k) + SUM_AT) - largest_cost(record(before, m)));
         break;
     case 47: /* with 32 live, the ticket that is out is not told */
-        if (before[6] == 32)
-            put4(reply + 4, 0);
+        if (before[LIVE_COUNT_AT] == MAX_LIVE)
+            put4(reply + REPLY_TICKET_AT, 0);
         break;
     case 48: /* the byte before the image is written */
         image[-1] = 0;
         break;
     case 49: /* ticks to go are kept in one byte */
         for (unsigned j = 1; j <= n; j++)
-            entry(trial, j)[5] = 0;
+            entry(trial, j)[LEFT_AT + 1] = 0;
         break;
     case 50: /* the clock is kept in 31 bits */
-        trial[11] &= 0x7f;
+        trial[CLOCK_AT + 3] &= 0x7f;
         break;
     case 51: /* the last record is not moved up when the first of 32 is out */
-        if (before[6] == 32 && out == get4(record(before, 0)))
-            memcpy(record(trial, 30), record(before, 30), 64);
+        if (before[LIVE_COUNT_AT] == MAX_LIVE && out == get4(record(before, 0) + TICKET_AT))
+            memcpy(record(trial, MAX_LIVE - 2), record(before, MAX_LIVE - 2), RECORD_SIZE);
         break;
     default:
         break;
     }
     if (number == 0)
-        memcpy(image, trial, IMAGE);
+        memcpy(image, trial, IMAGE_SIZE);
     return number;
 }
 
 uint32_t dispatcher_open(uint8_t *image, size_t image_len, uint32_t stations, uint8_t *reply, size_t reply_len)
 {
-    uint8_t last = image_len == IMAGE ? image[IMAGE - 1] : 0;
-    if (fault() == 53 && (stations & 255) >= 1 && (stations & 255) <= 8) /* only the low byte of the number of stations is read */
+    uint8_t last = image_len == IMAGE_SIZE ? image[IMAGE_SIZE - 1] : 0;
+    if (fault() == 53 && (stations & 255) >= 1 && (stations & 255) <= MAX_STATIONS) /* only the low byte of the number of stations is read */
         stations &= 255;
     uint32_t number = right_open(image, image_len, stations, reply, reply_len);
     if (fault() == 54 && number == 0) /* open leaves the last byte as it was */
-        image[IMAGE - 1] = last;
+        image[IMAGE_SIZE - 1] = last;
     if (fault() == 55 && number == 14) /* an open that is declined by 14 writes N */
-        image[5] = (uint8_t)stations;
+        image[STATION_COUNT_AT] = (uint8_t)stations;
     if (fault() == 56 && number == 0) /* open writes no tick */
-        reply[8] = 0xee;
+        reply[REPLY_TICK_AT] = 0xee;
     return number;
 }
 
@@ -507,7 +496,7 @@ size_t plan_probe_text(const uint8_t *input, size_t input_len, uint8_t *out)
 {
     size_t length = right_plan_text(input, input_len, out);
     int table = length > 0 && out[0] == 't';
-    char given[16400], text[OUT + 64];
+    char given[16400], text[OUT + 100];
     if (fault() == 57 && table) { /* a response at the deadline is on time */
         memcpy(given, input, input_len);
         given[input_len] = 0;

@@ -1,26 +1,32 @@
 """What the tests of the firmware example share: running the program, what an image says, and what the program has to tell of it, by document 01."""
 import os
 import shutil
-import struct
 import subprocess
+import sys
+from pathlib import Path
 
-SIZE = 2128
+sys.path.insert(0, str(Path(__file__).resolve().parent.parent))
+import layout
+from level import LEVEL, at_level
 
 
 class Image:
     """An image by the table of document 01."""
 
     def __init__(self, data):
-        check(len(data) == SIZE and data[:5] == b"WMC\x01\x00", "stored as an image:", len(data), "bytes that begin with", data[:5])
-        self.data, self.n, self.live = data, data[5], data[6]
-        self.clock, self.next = struct.unpack_from("<II", data, 8)
-        self.serving = [struct.unpack_from("<IH", data, 16 + 8 * j) for j in range(self.n)]
+        head = data[:len(layout.HEAD)]
+        check(len(data) == layout.IMAGE_SIZE and head == layout.HEAD, "stored as an image:", len(data), "bytes that begin with", head)
+        self.data, self.n, self.live = data, data[layout.STATION_COUNT_AT], data[layout.LIVE_COUNT_AT]
+        self.clock, self.next = layout.get(data, layout.CLOCK_AT, 4), layout.get(data, layout.NEXT_AT, 4)
+        self.serving = []
+        for j in range(self.n):
+            at = layout.service(j)
+            self.serving.append((layout.get(data, at + layout.SERVED_AT, 4), layout.get(data, at + layout.LEFT_AT, 2)))
         self.orders = []
         for k in range(self.live):
-            at = 80 + 64 * k
-            ticket, accepted, due, _ = struct.unpack_from("<IIII", data, at)
-            self.orders.append({"ticket": ticket, "accepted": accepted, "due": due, "station": data[at + 16], "ranks": data[at + 20:at + 28],
-                                "costs": struct.unpack_from("<8H", data, at + 28)})
+            at = layout.record(k)
+            self.orders.append({"ticket": layout.get(data, at + layout.TICKET_AT, 4), "due": layout.get(data, at + layout.DUE_AT, 4),
+                                "station": data[at + layout.STATION_AT], "ranks": layout.get_row(data, at + layout.RANKS_AT, 1)})
 
     def tickets(self):
         return [order["ticket"] for order in self.orders]
@@ -46,8 +52,7 @@ def advance_lines(before, after):
 def block(words):
     """The order block of `DUE_IN RANK:COST ..`."""
     pairs = [tuple(map(int, word.split(":"))) for word in words[1:]]
-    pairs += [(0, 0)] * (8 - len(pairs))
-    return struct.pack("<I8B8H", int(words[0]), *(rank for rank, _ in pairs), *(cost for _, cost in pairs))
+    return layout.block(int(words[0]), [rank for rank, _ in pairs], [cost for _, cost in pairs])
 
 
 class Runner:

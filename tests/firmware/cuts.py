@@ -17,11 +17,10 @@ import os
 import random
 import re
 import signal
-import struct
 import subprocess
 import sys
 
-from cabinet import SIZE, Image, Runner, advance_lines, block, check, least, whole_lines
+from cabinet import LEVEL, Image, Runner, advance_lines, at_level, block, check, layout, least, whole_lines
 
 SEED = 7301
 STATIONS = 3
@@ -30,7 +29,8 @@ STATIONS = 3
 def requests(rng):
     """A list of requests that ends with no order live: accepted and declined orders, lines that are none, and ticks."""
     listed = ["status", "offer 20 0:2 0:3 0:1", "quote 9 1:1 1:1 1:1", "offer 9 5:1 5:2 5:1", "offer 9 5:1 5:2 5:1", "wait 2", "offer 12 0:1 0:1 0:1"]
-    listed += ["offer 100 3:9 3:9 3:9", "offer 20 0:2 0:2", "quote 60001 0:1 0:1 0:1", "order 1", "offer 5 0:1 0:1 0:256:1", "wait 3", "status"]
+    listed += ["offer 100 3:9 3:9 3:9", "offer 20 0:2 0:2", f"quote {layout.MAX_DUE_IN + 1} 0:1 0:1 0:1", "order 1", "offer 5 0:1 0:1 0:256:1"]
+    listed += ["wait 3", "status"]
     for _ in range(11):
         costs = " ".join(f"{rng.randrange(3)}:{rng.choice((1, 1, 2, 3))}" for _ in range(STATIONS))
         listed.append(f"{rng.choice(('offer', 'offer', 'offer', 'offer', 'quote'))} {rng.randrange(15, 80)} {costs}")
@@ -124,7 +124,7 @@ class Plain:
             disk.call(line)
             if line.startswith("rename"):
                 data = disk.contents[disk.names[disk.name]]
-                check(len(data) == SIZE, "an image of", len(data), "bytes is stored")
+                check(len(data) == layout.IMAGE_SIZE, "an image of", len(data), "bytes is stored")
                 self.images.append(Image(data))
         check(bool(self.images), "no image gets its name by a rename")
         self.told = whole_lines(output)
@@ -160,7 +160,8 @@ class Plain:
 
     def replay(self, simulator, path):
         """The calls as a list of the second simulator, with the numbers, replies and images that the program gave."""
-        zeros, lines, answered = "00" * 16, [f"level 0\nimage {'00' * SIZE}"], iter(self.replies)
+        zeros, lines = "00" * layout.REPLY_SIZE, [f"level {LEVEL}\nimage {'00' * layout.IMAGE_SIZE}"]
+        answered = iter(self.replies)
         lines.append(f"open {STATIONS:08x} {zeros} -> 0 {zeros} {fnv(self.images[0].data):016x}")
         counts = {}
         for k, text in enumerate(self.listed):
@@ -169,7 +170,7 @@ class Plain:
                 for at in self.stores[k]:
                     before, after = self.images[at - 1], self.images[at]
                     out = [ticket for ticket in before.tickets() if ticket not in after.tickets()]
-                    reply = struct.pack("<IIIi", 0, out[0] if out else 0, after.clock, 0)
+                    reply = layout.reply(0, out[0] if out else 0, after.clock, 0)
                     lines.append(f"advance {zeros} -> 0 {reply.hex()} {fnv(after.data):016x}")
             elif word != "status":
                 _, answer, image = next(answered)
@@ -181,12 +182,12 @@ class Plain:
                 if number == 0:
                     due = image.orders[-1]["due"] if word == "offer" else image.clock + int(words[0])
                     check(f" due {due} " in answer and (word == "offer") == answer.startswith("accepted "), text, "is answered by", answer)
-                reply = struct.pack("<IIIi", number, ticket, tick, margin)
+                reply = layout.reply(number, ticket, tick, margin)
                 lines.append(f"{word} {block(words).hex()} {zeros} -> {number} {reply.hex()} {fnv(image.data):016x}")
                 counts[f"{word} {number}"] = counts.get(f"{word} {number}", 0) + 1
         with open(path, "w") as file:
             file.write("\n".join(lines) + "\n")
-        said = subprocess.run([simulator, "--level", "0", "replay", path], capture_output=True, text=True)
+        said = subprocess.run(at_level(simulator, "replay", path), capture_output=True, text=True)
         check(said.returncode == 0 and said.stdout == f"{len(lines) - 1} calls agree\n", "the second simulator:", said.stdout, said.stderr)
         for name, count in {"offer 0": 10, "quote 0": 1, "offer 11": 1, "offer 12": 1, "offer 6": 1, "quote 7": 1, "not understood": 2}.items():
             check(counts.get(name, 0) >= count, "the list shows too little:", name, counts.get(name, 0))
@@ -306,7 +307,7 @@ def again_and_again(runner, plain, rng, lists):
                 seen = 0
                 if data is not None:
                     runner.store(data)
-                leftover = rng.randbytes(rng.randrange(2 * SIZE)) if rng.randrange(2) else None
+                leftover = rng.randbytes(rng.randrange(2 * layout.IMAGE_SIZE)) if rng.randrange(2) else None
                 if leftover is not None:
                     with open(runner.image + ".next", "wb") as file:
                         file.write(leftover)

@@ -13,7 +13,7 @@ import subprocess
 import sys
 import time
 
-from cabinet import Image, Runner, check, least, whole_lines
+from cabinet import Image, Runner, check, layout, least, whole_lines
 
 SEED = 7500
 KILLS = 12
@@ -50,7 +50,7 @@ def sync_takes(folder):
     for _ in range(10):
         began = time.monotonic()
         with open(os.path.join(folder, "tried"), "wb") as file:
-            file.write(bytes(2128))
+            file.write(bytes(layout.IMAGE_SIZE))
             file.flush()
             os.fsync(file.fileno())
         times.append((time.monotonic() - began) * 1000)

@@ -6,17 +6,16 @@ one and tell what it says; another it has to refuse by that number, with exit st
 can get, from images at the ends of the ranges, and lines that are no requests."""
 import os
 import re
-import struct
 import subprocess
 import sys
 
-from cabinet import SIZE, Image, Runner, check, whole_lines
+from cabinet import Image, Runner, check, layout, whole_lines
 
 REFUSED = re.compile(r"cabinet: the image \S+ is refused by number (\d+): .+ The file is left as it is\. .+\n")
 
 
 def empty_image(n, clock, ticket):
-    return struct.pack("<3sHBBBII", b"WMC", 1, n, 0, 0, clock, ticket).ljust(SIZE, b"\0")
+    return bytes(layout.empty_image(n, clock, ticket))
 
 
 def simulated(folder):
@@ -32,14 +31,17 @@ def simulated(folder):
 
 def own(sound):
     """Images damaged here: lengths, every bit of mark and version, and bytes that document 01 rules out."""
-    for length in (0, 1, 16, SIZE - 1):
+    size = layout.IMAGE_SIZE
+    for length in (0, 1, layout.SERVICES_AT, size - 1):
         yield sound[:length], 2
-    for more in (1, SIZE):
+    for more in (1, size):
         yield sound + bytes(more), 2
-    for bit in range(40):
+    for bit in range(8 * len(layout.HEAD)):
         yield sound[:bit // 8] + bytes([sound[bit // 8] ^ 1 << bit % 8]) + sound[bit // 8 + 1:], 3
-    yield bytes(SIZE), 3
-    for at, value in ((5, 0), (5, 9), (5, 255), (6, 33), (7, 1), (11, 255), (22, 1), (SIZE - 1, 1)):
+    yield bytes(size), 3
+    stations = layout.STATION_COUNT_AT
+    for at, value in ((stations, 0), (stations, layout.MAX_STATIONS + 1), (stations, 255), (layout.LIVE_COUNT_AT, layout.MAX_LIVE + 1),
+                      (layout.HEADER_ZERO_AT, 1), (layout.CLOCK_AT + 3, 255), (layout.service(0) + layout.SERVICE_ZERO_AT, 1), (size - 1, 1)):
         yield sound[:at] + bytes([value]) + sound[at + 1:], 4
 
 
@@ -56,7 +58,7 @@ def images(runner, folder):
         runner.store(data)
         before = seen(runner)
         # With --stations, too: a damaged image is never taken for a first start.
-        options = ("--stations", data[5] if number == 0 else 2) if sum(counts.values()) % 2 else ()
+        options = ("--stations", data[layout.STATION_COUNT_AT] if number == 0 else 2) if sum(counts.values()) % 2 else ()
         status, output, errors = runner.run("status\noffer 0 0:1 0:1\n" if number else "status\n", "--tick", 0, *options)
         counts[number] += 1
         if number == 0:
@@ -73,18 +75,19 @@ def images(runner, folder):
 
 def answers(runner):
     """Images made by hand, requests, and the numbers that document 01 gives them: 0 where the order is accepted."""
-    last = 4000000000
-    full = "offer 60000 0:1\n" * 32
+    last, most, default = layout.LAST_TICK, layout.MAX_DUE_IN, layout.DEFAULT_DUE_IN
+    one = f"offer {most} 0:1\n"
     words = {}
     for n, clock, ticket, text, numbers in (
-            (1, 0, 1, full + "offer 60000 0:1\nwait 1\noffer 60000 0:1\nquote 60000 0:1\n", [0] * 32 + [10, 0, 10]),
+            (1, 0, 1, one * (layout.MAX_LIVE + 1) + "wait 1\n" + one + f"quote {most} 0:1\n", [0] * layout.MAX_LIVE + [10, 0, 10]),
             (2, 0, 1, "offer 20 0:2 0:3\nquote 6 5:1 5:2\noffer 6 5:1 5:2\noffer 7 5:1 5:2\n", [0, 11, 11, 0]),
             (2, 0, 1, "offer 6 0:2 0:3\nquote 100 5:1 5:2\noffer 100 5:1 5:2\n", [0, 12, 12]),
-            (2, 0, 1, "offer 9 0:1\noffer 9\noffer 9 0:1 0:1 0:1\noffer 9 0:1 0:1 1:0\noffer 9 0:6001 0:1\nquote 9 0:0 0:1\n", [6, 6, 6, 6, 6, 6]),
-            (1, 0, 1, "offer 60001 0:1\noffer 4294967295 0:1\noffer 60000 0:1\noffer 0 0:1\n", [7, 7, 0, 0]),
+            (2, 0, 1, "offer 9 0:1\noffer 9\noffer 9 0:1 0:1 0:1\noffer 9 0:1 0:1 1:0\n", [6, 6, 6, 6]),
+            (2, 0, 1, f"offer 9 0:{layout.MAX_COST + 1} 0:1\nquote 9 0:0 0:1\n", [6, 6]),
+            (1, 0, 1, f"offer {most + 1} 0:1\noffer {2**32 - 1} 0:1\n{one}offer 0 0:1\n", [7, 7, 0, 0]),
             (1, last - 5, 1, "offer 6 0:1\nquote 6 0:1\noffer 0 0:1\noffer 5 0:1\n", [8, 8, 8, 0]),
             (1, 7, 0, "offer 6 0:1\nquote 6 0:1\n", [9, 9]),
-            (1, 7, 2**32 - 1, "offer 6 0:1\noffer 6 0:1\n", [0, 9])):
+            (1, 7, layout.LAST_TICKET, "offer 6 0:1\noffer 6 0:1\n", [0, 9])):
         runner.clear()
         runner.store(empty_image(n, clock, ticket))
         status, output, errors = runner.run(text, "--tick", 0)
@@ -95,13 +98,14 @@ def answers(runner):
             check(line.startswith("accepted") if number == 0 else told and int(told[1]) == number and bool(told[2]) == (number in (11, 12)), text, number, line)
             if told:
                 words.setdefault(int(told[1]), set()).add(told[3])
-    # "X, due-in 20, at 0: ticket 1, tick 5, margin 15", and Y after it; and due-in 0 stands for 18,000.
+    # "X, due-in 20, at 0: ticket 1, tick 5, margin 15", and Y after it; and due-in 0 stands for the default.
     runner.clear()
     lines = whole_lines(runner.run("offer 20 0:2 0:3\noffer 7 5:1 5:2\nquote 0 0:1 0:1\n", "--stations", 2, "--tick", 0)[1])
     check(lines[1:] == ["accepted ticket 1 out-by 5 due 20 margin 15", "accepted ticket 2 out-by 7 due 7 margin 0", "declined 12 margin -1: " + max(words[12])],
           "the counter examples give", lines)
     runner.clear()
-    check(b"quoted out-by 2 due 18000 margin 17998\n" in runner.run("quote 0 0:1 0:1\n", "--stations", 2, "--tick", 0)[1], "due-in 0")
+    told = f"quoted out-by 2 due {default} margin {default - 2}"
+    check(told in whole_lines(runner.run("quote 0 0:1 0:1\n", "--stations", 2, "--tick", 0)[1]), "due-in 0")
 
     runner.clear()
     runner.store(empty_image(1, last - 2, 1))

@@ -18,7 +18,7 @@
  *     1 byte    N less 1, mod 8
  *     1 byte    rows less 1, mod 4. A row has N ranks of 1 byte and N costs of 2 bytes, each cost less 1, mod 6,000. Orders are made of rows
  *     the rows
- *     the image, unless it is fresh. By its bytes: 2,128 bytes. Described:
+ *     the image, unless it is fresh. By its bytes: as many as an image has. Described:
  *         1 byte    live orders, mod 33
  *         5 bytes   the clock: 4 bytes v, then how: 0 v mod 100; 1 v mod 100 before the last tick; 2 v mod 65,536 before it; 3 v, mod 4,000,000,001; mod 4
  *         3 bytes   the tickets: 2 bytes v, then how: 0 from 1 on; 1 from 1 + v on; 2 the last order has the last ticket less v mod 4, and none is left;
@@ -47,7 +47,8 @@
  *         for open the number of stations: 1 byte, and 4 more if that is 255
  *         then the bytes of the reply, if bit 5 says so */
 #define _DEFAULT_SOURCE
-#include "dispatcher.h"
+#include "../../firmware/bytes.h"
+#include "../layout.h"
 
 #include <signal.h>
 #include <stdio.h>
@@ -56,11 +57,9 @@
 #include <sys/mman.h>
 #include <unistd.h>
 
-#define IMAGE DISPATCHER_IMAGE_SIZE
-#define LAST_TICK DISPATCHER_LAST_TICK
-#define LONGEST 2300       /* bytes of a lent buffer, at most */
-#define MOST_CALLS 200     /* of one input */
-#define LONGEST_INPUT 4096 /* what the replayer reads of one */
+#define LONGEST (IMAGE_SIZE + 172) /* bytes of a lent buffer, at most */
+#define MOST_CALLS 200             /* of one input */
+#define LONGEST_INPUT 4096         /* what the replayer reads of one */
 
 /* ---- who answers ---- */
 
@@ -154,14 +153,14 @@ struct result {
 };
 
 /* What has been seen, over all inputs. */
-static unsigned long made, inputs, seen[CALLS][15], offers_at[33], advances_at[33], outs, moves, starts;
+static unsigned long made, inputs, seen[CALLS][15], offers_at[MAX_LIVE + 1], advances_at[MAX_LIVE + 1], outs, moves, starts;
 static const char *input_name = "the input";
 static unsigned long made_before;
 
 /* What AFL++ is told beside the edges of the library, so that it keeps an input that is the first with it: call, number and N; and the live orders before a
  * done offer or advance. To AFL++ these are edges like the others: they stand in the same section. */
-#define PAIRS (CALLS * 15 * 10)
-#define MARKS (PAIRS + 2 * 33)
+#define PAIRS (CALLS * 15 * (MAX_STATIONS + 2))
+#define MARKS (PAIRS + 2 * (MAX_LIVE + 1))
 static uint8_t marked[MARKS], marked_here[MARKS]; /* in any input; in this one, where each counts once */
 static unsigned long marks;
 #ifdef FUZZ
@@ -181,9 +180,9 @@ static void mark(size_t at)
 #endif
 }
 
-static uint32_t get4(const uint8_t *at)
+static uint32_t smaller(uint32_t a, uint32_t b)
 {
-    return (uint32_t)at[0] | (uint32_t)at[1] << 8 | (uint32_t)at[2] << 16 | (uint32_t)at[3] << 24;
+    return a < b ? a : b;
 }
 
 static void put(uint8_t *at, uint32_t value, size_t width)
@@ -241,17 +240,19 @@ static void ask(const struct side *side, struct result *its)
 /* What a done advance did: at each station a start, and orders that went on. */
 static void count_tick(const uint8_t *before, const uint8_t *after)
 {
-    advances_at[before[6]]++;
-    for (int k = 0; k < before[6]; k++) {
-        const uint8_t *r = before + 80 + 64 * k, *entry = before + 16 + 8 * (r[16] - 1);
-        if (get4(entry) == 0 && get4(after + 16 + 8 * (r[16] - 1)) == get4(r))
+    int live = before[LIVE_COUNT_AT];
+    advances_at[live]++;
+    for (int k = 0; k < live; k++) {
+        const uint8_t *r = before + RECORD(k);
+        int served = SERVICE(r[STATION_AT] - 1) + SERVED_AT;
+        if (get4(before + served) == 0 && get4(after + served) == get4(r + TICKET_AT))
             starts++;
     }
-    if (after[6] < before[6])
+    if (after[LIVE_COUNT_AT] < live)
         outs++;
     else
-        for (int k = 0; k < before[6]; k++)
-            moves += after[80 + 64 * k + 16] != before[80 + 64 * k + 16];
+        for (int k = 0; k < live; k++)
+            moves += after[RECORD(k) + STATION_AT] != before[RECORD(k) + STATION_AT];
 }
 
 static uint32_t one_call(void)
@@ -281,14 +282,15 @@ static uint32_t one_call(void)
         differ("the reply was written", &sides[0], &right, &right);
 
     seen[which][right.number]++;
-    mark(((size_t)which * 15 + right.number) * 10 + (image[5] < 9 ? image[5] : 9));
+    uint32_t stations_there = smaller(image[STATION_COUNT_AT], MAX_STATIONS + 1);
+    mark(((size_t)which * 15 + right.number) * (MAX_STATIONS + 2) + stations_there);
     if (which == OFFER && right.number == 0) {
-        offers_at[image[6]]++;
-        mark(PAIRS + image[6]);
+        offers_at[image[LIVE_COUNT_AT]]++;
+        mark(PAIRS + image[LIVE_COUNT_AT]);
     }
     if (which == ADVANCE && right.number == 0) {
         count_tick(image, right.image);
-        mark(PAIRS + 33 + image[6]);
+        mark(PAIRS + MAX_LIVE + 1 + image[LIVE_COUNT_AT]);
     }
     memcpy(image, right.image, image_length);
     return right.number;
@@ -319,121 +321,115 @@ static uint32_t stretched(uint32_t byte, uint32_t most)
     return byte < 128 ? byte : (byte - 127) * (most / 128);
 }
 
-static uint32_t smaller(uint32_t a, uint32_t b)
-{
-    return a < b ? a : b;
-}
-
 static uint32_t n, rows;
-static uint8_t ranks[4][8];
-static uint16_t costs[4][8];
+static uint8_t ranks[4][MAX_STATIONS];
+static uint16_t costs[4][MAX_STATIONS];
 
 static void take_rows(void)
 {
-    n = take(1) % 8 + 1;
+    n = take(1) % MAX_STATIONS + 1;
     rows = take(1) % 4 + 1;
     memset(ranks, 0, sizeof ranks);
     memset(costs, 0, sizeof costs);
     for (uint32_t r = 0; r < rows; r++) {
         take_bytes(ranks[r], n);
         for (uint32_t j = 0; j < n; j++)
-            costs[r][j] = (uint16_t)(take(2) % DISPATCHER_MAX_COST + 1);
+            costs[r][j] = (uint16_t)(take(2) % MAX_COST + 1);
     }
 }
 
 static void put_row(uint8_t *at, const uint16_t *row)
 {
-    for (int j = 0; j < 8; j++)
-        put(at + 2 * j, row[j], 2);
+    for (int j = 0; j < MAX_STATIONS; j++)
+        put2(at + 2 * j, row[j]);
 }
 
 /* A cabinet with nothing live. */
 static void empty_image(uint32_t clock, uint32_t next)
 {
-    memcpy(image, "WMC\1\0", 5);
-    image[5] = (uint8_t)n;
-    put(image + 8, clock, 4);
-    put(image + 12, next, 4);
+    memcpy(image, mark_and_version, sizeof mark_and_version);
+    image[STATION_COUNT_AT] = (uint8_t)n;
+    put4(image + CLOCK_AT, clock);
+    put4(image + NEXT_AT, next);
 }
 
 static void described_order(uint32_t k, uint32_t clock)
 {
-    uint8_t *at = image + 80 + 64 * k;
-    uint32_t row = take(1) >> 2 & 3, station = take(1) % n + 1, above = stretched(take(1), 6000), delay, sum, largest = 0;
-    uint16_t maxima[8] = {0};
+    uint8_t *at = image + RECORD(k);
+    uint32_t row = take(1) >> 2 & 3, station = take(1) % n + 1, above = stretched(take(1), MAX_COST), delay, sum, largest = 0;
+    uint16_t maxima[MAX_STATIONS] = {0};
     row %= rows;
-    sum = stretched(take(1), 30000);
+    sum = stretched(take(1), MAX_DUE_IN / 2);
     for (uint32_t j = 0; j < n; j++) {
-        maxima[j] = (uint16_t)smaller(costs[row][j] + above, DISPATCHER_MAX_COST);
+        maxima[j] = (uint16_t)smaller(costs[row][j] + above, MAX_COST);
         largest = costs[row][j] > largest ? costs[row][j] : largest;
     }
     sum += largest;
     delay = sum;
     for (uint32_t j = 0; j + 1 < n; j++)
         delay += maxima[j];
-    uint32_t accepted = clock - smaller(stretched(take(1), 60000), clock);
-    uint32_t due_in = smaller(delay + stretched(take(1), 60000), DISPATCHER_MAX_DUE_IN);
+    uint32_t accepted = clock - smaller(stretched(take(1), MAX_DUE_IN), clock);
+    uint32_t due_in = smaller(delay + stretched(take(1), MAX_DUE_IN), MAX_DUE_IN);
     accepted = smaller(accepted, LAST_TICK - due_in);
-    put(at + 4, accepted, 4);
-    put(at + 8, accepted + due_in, 4);
-    put(at + 12, sum, 4);
-    at[16] = (uint8_t)station;
-    memcpy(at + 20, ranks[row], 8);
-    put_row(at + 28, costs[row]);
-    put_row(at + 44, maxima);
+    put4(at + ACCEPTED_AT, accepted);
+    put4(at + DUE_AT, accepted + due_in);
+    put4(at + SUM_AT, sum);
+    at[STATION_AT] = (uint8_t)station;
+    memcpy(at + RANKS_AT, ranks[row], MAX_STATIONS);
+    put_row(at + COSTS_AT, costs[row]);
+    put_row(at + MAXIMA_AT, maxima);
 }
 
 static void described_service(uint32_t station)
 {
     uint32_t who = take(1), to_go = take(1), there = 0;
-    const uint8_t *at[32];
-    for (int k = 0; k < image[6]; k++)
-        if (image[80 + 64 * k + 16] == station)
-            at[there++] = image + 80 + 64 * k;
+    const uint8_t *at[MAX_LIVE];
+    for (int k = 0; k < image[LIVE_COUNT_AT]; k++)
+        if (image[RECORD(k) + STATION_AT] == station)
+            at[there++] = image + RECORD(k);
     who %= there + 1;
     if (who == 0)
         return;
-    const uint8_t *own = at[who - 1] + 28 + 2 * (station - 1);
-    uint32_t cost = own[0] | (uint32_t)own[1] << 8;
-    put(image + 16 + 8 * (station - 1), get4(at[who - 1]), 4);
-    put(image + 16 + 8 * (station - 1) + 4, to_go < 128 ? to_go % cost + 1 : cost - (to_go - 128) % cost, 2);
+    uint32_t cost = get2(at[who - 1] + COSTS_AT + 2 * (station - 1));
+    put4(image + SERVICE(station - 1) + SERVED_AT, get4(at[who - 1] + TICKET_AT));
+    put2(image + SERVICE(station - 1) + LEFT_AT, to_go < 128 ? to_go % cost + 1 : cost - (to_go - 128) % cost);
 }
 
 static void described_image(void)
 {
-    uint32_t live = take(1) % 33, v = take(4), how = take(1) % 4;
+    uint32_t live = take(1) % (MAX_LIVE + 1), v = take(4), how = take(1) % 4;
     uint32_t clock = how == 0 ? v % 100 : how == 1 ? LAST_TICK - v % 100 : how == 2 ? LAST_TICK - v % 65536 : v % (LAST_TICK + 1);
     v = take(2);
     how = take(1) % 4;
     empty_image(clock, 0);
-    image[6] = (uint8_t)live;
+    image[LIVE_COUNT_AT] = (uint8_t)live;
     /* The tickets one behind the other from 1 on, and then all of them moved up. */
     uint32_t last = 0;
     for (uint32_t k = 0; k < live; k++) {
         last += (left > 0 ? *in & 3u : 0) + 1;
-        put(image + 80 + 64 * k, last, 4);
+        put4(image + RECORD(k) + TICKET_AT, last);
         described_order(k, clock);
     }
-    uint32_t up = how == 0 ? 0 : how == 1 ? v : UINT32_MAX - last - v % 4 - (how == 3);
+    uint32_t up = how == 0 ? 0 : how == 1 ? v : LAST_TICKET - last - v % 4 - (how == 3);
     for (uint32_t k = 0; k < live; k++)
-        put(image + 80 + 64 * k, get4(image + 80 + 64 * k) + up, 4);
-    put(image + 12, how == 2 ? 0 : last + up + 1, 4);
+        put4(image + RECORD(k) + TICKET_AT, get4(image + RECORD(k) + TICKET_AT) + up);
+    put4(image + NEXT_AT, how == 2 ? 0 : last + up + 1);
     for (uint32_t station = 1; station <= n; station++)
         described_service(station);
 }
 
 static void patch(void)
 {
-    uint32_t live = smaller(image[6], 32), part = take(1) % (live + 3), place = take(1), kind = take(1), value = 0;
-    uint32_t behind = 80 + 64 * live, at = 80 + 64 * (part - 1) + place % 64;
+    uint32_t live = smaller(image[LIVE_COUNT_AT], MAX_LIVE), part = take(1) % (live + 3), place = take(1), kind = take(1), value = 0;
+    uint32_t behind = RECORD(live), at = RECORD(part - 1) + place % RECORD_SIZE;
     size_t width = (size_t)1 << smaller(kind & 3, 2);
     if (part == 0)
-        at = place % 80;
+        at = place % RECORDS_AT;
     if (part == live + 1)
-        at = live < 32 ? behind + place % (IMAGE - behind) : IMAGE;
+        at = live < MAX_LIVE ? behind + place % (IMAGE_SIZE - behind) : IMAGE_SIZE;
     if (part == live + 2)
-        at = IMAGE - 1 - place;
-    at = smaller(at, (uint32_t)(IMAGE - width));
+        at = IMAGE_SIZE - 1 - place;
+    at = smaller(at, (uint32_t)(IMAGE_SIZE - width));
     for (size_t i = 0; i < width; i++)
         value |= (uint32_t)image[at + i] << 8 * i;
     switch (kind >> 2 & 3) {
@@ -454,10 +450,10 @@ static size_t take_length(const size_t *lengths)
 /* The smallest due-in with which an order of this block is on time, as the simulator quotes it; or up to which it is due by the last tick. */
 static uint32_t near(void)
 {
-    uint8_t given[16];
-    put(order, DISPATCHER_MAX_DUE_IN, 4);
-    uint32_t number = simulator_quote(image, IMAGE, order, DISPATCHER_ORDER_SIZE, given, sizeof given), clock = get4(image + 8);
-    return number == 0 ? get4(given + 8) - clock : number == 8 ? LAST_TICK - clock : DISPATCHER_MAX_DUE_IN;
+    uint8_t given[REPLY_SIZE];
+    put4(order + BLOCK_DUE_IN_AT, MAX_DUE_IN);
+    uint32_t number = simulator_quote(image, IMAGE_SIZE, order, BLOCK_SIZE, given, sizeof given), clock = get4(image + CLOCK_AT);
+    return number == 0 ? get4(given + REPLY_TICK_AT) - clock : number == 8 ? LAST_TICK - clock : MAX_DUE_IN;
 }
 
 static void take_order(int by_bytes)
@@ -468,28 +464,28 @@ static void take_order(int by_bytes)
         return;
     }
     uint32_t kind = take(1), row = (kind & 3) % rows, due_in;
-    memcpy(order + 4, ranks[row], 8);
-    put_row(order + 12, costs[row]);
+    memcpy(order + BLOCK_RANKS_AT, ranks[row], MAX_STATIONS);
+    put_row(order + BLOCK_COSTS_AT, costs[row]);
     switch (kind >> 2 & 3) {
     case 0: due_in = take(2); break;
     case 1: due_in = take(4); break;
-    case 2: due_in = DISPATCHER_MAX_DUE_IN; break;
+    case 2: due_in = MAX_DUE_IN; break;
     default: due_in = near() + (uint32_t)(int8_t)take(1); break;
     }
-    put(order, due_in, 4);
+    put4(order + BLOCK_DUE_IN_AT, due_in);
 }
 
 static void take_call(void)
 {
-    static const size_t image_lengths[] = {IMAGE, 0, IMAGE - 1, IMAGE + 1, 1, 16, 80};
-    static const size_t order_lengths[] = {DISPATCHER_ORDER_SIZE, 0, DISPATCHER_ORDER_SIZE - 1, DISPATCHER_ORDER_SIZE + 1, 1, 12, 56};
-    static const size_t reply_lengths[] = {DISPATCHER_REPLY_SIZE, 0, DISPATCHER_REPLY_SIZE - 1, DISPATCHER_REPLY_SIZE + 1, 1, 4, 32};
+    static const size_t image_lengths[] = {IMAGE_SIZE, 0, IMAGE_SIZE - 1, IMAGE_SIZE + 1, 1, SERVICES_AT, RECORDS_AT};
+    static const size_t order_lengths[] = {BLOCK_SIZE, 0, BLOCK_SIZE - 1, BLOCK_SIZE + 1, 1, BLOCK_COSTS_AT, 2 * BLOCK_SIZE};
+    static const size_t reply_lengths[] = {REPLY_SIZE, 0, REPLY_SIZE - 1, REPLY_SIZE + 1, 1, 4, 2 * REPLY_SIZE};
     uint32_t kind = take(1), times = kind & 4 ? take(1) + 1 : 1;
     which = (int)(kind & 3);
     at_start = (kind & 64) != 0;
-    image_length = IMAGE;
-    order_length = DISPATCHER_ORDER_SIZE;
-    reply_length = DISPATCHER_REPLY_SIZE;
+    image_length = IMAGE_SIZE;
+    order_length = BLOCK_SIZE;
+    reply_length = REPLY_SIZE;
     if (kind & 8) {
         image_length = take_length(image_lengths);
         order_length = take_length(order_lengths);
@@ -506,10 +502,10 @@ static void take_call(void)
     if (kind & 32)
         take_bytes(reply, reply_length);
 
-    static uint8_t unpatched[IMAGE];
+    static uint8_t unpatched[IMAGE_SIZE];
     int patched = kind & 128 && (which == ADVANCE || which == OPEN);
     uint32_t number = 0;
-    memcpy(unpatched, image, IMAGE);
+    memcpy(unpatched, image, IMAGE_SIZE);
     if (patched) {
         patch();
     } else if (kind & 128 && order_length > 0) {
@@ -519,7 +515,7 @@ static void take_call(void)
     for (uint32_t k = 0; k < times && made - made_before < MOST_CALLS; k++)
         number = one_call();
     if (patched && number != 0)
-        memcpy(image, unpatched, IMAGE);
+        memcpy(image, unpatched, IMAGE_SIZE);
 }
 
 static void try_input(const uint8_t *bytes, size_t length)
@@ -536,9 +532,9 @@ static void try_input(const uint8_t *bytes, size_t length)
     case 0: empty_image(0, 1); break;
     case 1: described_image(); break;
     default:
-        take_bytes(image, IMAGE);
+        take_bytes(image, IMAGE_SIZE);
         if ((kind & 3) == 3)
-            memcpy(image, "WMC\1\0", 5);
+            memcpy(image, mark_and_version, sizeof mark_and_version);
         break;
     }
     if (kind & 4)
@@ -589,9 +585,9 @@ static int complete(void)
     for (int c = 0; c < CALLS; c++)
         for (unsigned long k = 0; k < 15; k++)
             lacks |= missing((numbers_of[c] >> k & 1) != 0 && seen[c][k] == 0, names[c], k);
-    for (unsigned long k = 0; k <= 31; k++)
+    for (unsigned long k = 0; k < MAX_LIVE; k++)
         lacks |= missing(offers_at[k] == 0, "done offer with live orders", k);
-    for (unsigned long k = 0; k <= 32; k++)
+    for (unsigned long k = 0; k <= MAX_LIVE; k++)
         lacks |= missing(advances_at[k] == 0, "done advance with live orders", k);
     lacks |= missing(starts < 100, "100 starts but", starts);
     lacks |= missing(moves < 100, "100 orders that go on but", moves);

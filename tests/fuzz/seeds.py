@@ -1,21 +1,28 @@
 #!/usr/bin/env python3
-"""seeds.py SIMULATOR DIR: writes the inputs that fuzzing starts from, in the form that fuzz.c describes.
+"""seeds.py SIMULATOR DIR WORDS: writes the inputs that fuzzing starts from into DIR, in the form that fuzz.c describes, and into the file WORDS what AFL++ is
+to put into inputs.
 
 Most are made by hand here: each number of each call, cabinets that are fresh, full, at the last tick and at the last ticket, each clause of soundness broken,
-and wrong lengths. The rest are images and lists of calls that the second simulator's generators make with a fixed seed. Every run writes the same files:
-
-    python3 tests/fuzz/seeds.py target/second-simulator/target/harness/release/second-simulator tests/fuzz/seeds
+and wrong lengths. The rest are images and lists of calls that the second simulator's generators make with a fixed seed. Every run writes the same files;
+tests/stored has it write tests/fuzz/seeds and tests/fuzz/words.
 """
 import os
 import subprocess
 import sys
 import tempfile
+from pathlib import Path
+
+sys.path.insert(0, str(Path(__file__).resolve().parent.parent))
+import layout
+from layout import BLOCK_SIZE, IMAGE_SIZE, LAST_TICK, MAX_COST, MAX_DUE_IN, MAX_LIVE, MAX_STATIONS, REPLY_SIZE, block, record, service
+from level import at_level
 
 SEED = 70000
 ADVANCE, OFFER, QUOTE, OPEN = range(4)
 FRESH, DESCRIBED, BYTES = range(3)
 MANY, ODD, BLOCK, REPLY, AT_START, PATCHED = 4, 8, 16, 32, 64, 128
 PATCHES = 4
+LONGEST = IMAGE_SIZE + 172  # bytes of a lent buffer, as fuzz.c has it
 
 
 def little(value, width):
@@ -31,7 +38,7 @@ def head(kind, n, *rows):
     return text
 
 
-def stretched(amount, most=60000):
+def stretched(amount, most=MAX_DUE_IN):
     """The byte that stands for about this amount."""
     return amount if amount < 128 else min(255, 127 + amount // (most // 128))
 
@@ -40,7 +47,7 @@ def described(clock, tickets, orders, services):
     """clock and tickets: (v, how). orders: (gap, row, station, above, sum, before, room). services: (who, to go), one a station."""
     text = bytes([len(orders)]) + little(clock[0], 4) + bytes([clock[1]]) + little(tickets[0], 2) + bytes([tickets[1]])
     for gap, row, station, above, more, before, room in orders:
-        text += bytes([gap | row << 2, station - 1, stretched(above, 6000), stretched(more, 30000), stretched(before), stretched(room)])
+        text += bytes([gap | row << 2, station - 1, stretched(above, MAX_COST), stretched(more, MAX_DUE_IN // 2), stretched(before), stretched(room)])
     for who, to_go in services:
         text += bytes([who, to_go])
     return text
@@ -48,8 +55,13 @@ def described(clock, tickets, orders, services):
 
 def patch(live, at, width, value):
     """The number of `width` bytes at this place of an image with so many live orders gets this value, or is one more or less."""
-    behind = 80 + 64 * live
-    part, place = (0, at) if at < 80 else (live + 2, 2127 - at) if at >= behind + 200 else (live + 1, at - behind) if at >= behind else divmod(at - 16, 64)
+    behind = record(live)
+    if at < record(0):
+        part, place = 0, at
+    elif at < behind:
+        part, place = divmod(at - record(-1), layout.RECORD_SIZE)
+    else:
+        part, place = (live + 1, at - behind) if at < behind + 200 else (live + 2, IMAGE_SIZE - 1 - at)
     size = {1: 0, 2: 1, 4: 2}[width]
     if value in ('+1', '-1'):
         return bytes([part, place, size | (4 if value == '+1' else 8)])
@@ -61,17 +73,13 @@ def advance(times=1, flags=0):
 
 
 def by_row(which, row=0, due_in=None, room=None, times=1, flags=0):
-    """An offer or a quote of a row: with this due-in, with the smallest due-in on time and this much more, or with 60,000."""
+    """An offer or a quote of a row: with this due-in, with the smallest due-in on time and this much more, or with the largest."""
     text = bytes([which | flags]) if times == 1 else bytes([which | MANY | flags, times - 1])
     if room is not None:
         return text + bytes([row | 3 << 2]) + little(room, 1)
     if due_in is None:
         return text + bytes([row | 2 << 2])
     return text + (bytes([row]) + little(due_in, 2) if due_in < 65536 else bytes([row | 1 << 2]) + little(due_in, 4))
-
-
-def block(due_in, ranks, costs):
-    return little(due_in, 4) + bytes(ranks) + b''.join(little(c, 2) for c in costs)
 
 
 def by_bytes(which, order, flags=0):
@@ -96,8 +104,8 @@ def counter():
     yield 'x-then-y', head(FRESH, 2, x, y) + by_row(OFFER, 0, 20) + by_row(QUOTE, 1, 6) + by_row(OFFER, 1, 6) + by_row(OFFER, 1, 7) + advance(9)
     yield 'y-delays-x', head(FRESH, 2, x, y) + by_row(OFFER, 0, 6) + by_row(QUOTE, 1, 100) + by_row(OFFER, 1, 100) + advance(6)
     yield 'y-starts-later', head(FRESH, 2, x, ([0, 0], [1, 2])) + by_row(OFFER, 0, 20) + advance() + by_row(OFFER, 1, 7) + advance(8)
-    yield 'eight-of-6000', head(FRESH, 8, ([0] * 8, [6000] * 8)) + by_row(OFFER, 0, 0) + by_row(OFFER, 0, 47999) + by_row(OFFER, 0, 48000) + advance(3)
-    for n in range(1, 9):
+    yield 'eight-of-6000', head(FRESH, 8, ([0] * 8, [MAX_COST] * 8)) + by_row(OFFER, 0, 0) + by_row(OFFER, 0, 47999) + by_row(OFFER, 0, 48000) + advance(3)
+    for n in range(1, MAX_STATIONS + 1):
         rows = [(list(range(n)), [3 + j for j in range(n)]), ([7] * n, [2] * n), ([1] * n, [1] * n)]
         calls = b''.join(by_row(QUOTE, r, room=-1) + by_row(OFFER, r, room=-1) + by_row(OFFER, r, room=9) + advance(2) for r in (0, 1, 2, 1))
         yield f'stations-{n}', opened_head(n, rows) + calls + by_row(OFFER, 2, room=0) + advance(60)
@@ -109,29 +117,30 @@ def opened_head(n, rows):
 
 def long_runs():
     full = head(FRESH, 1, ([0], [1]))
-    yield 'full', full + by_row(OFFER, times=33) + by_row(QUOTE) + advance() + by_row(OFFER) + advance(40)
+    yield 'full', full + by_row(OFFER, times=MAX_LIVE + 1) + by_row(QUOTE) + advance() + by_row(OFFER) + advance(40)
     yield 'one-a-tick', head(FRESH, 2, ([3, 3], [200, 100])) + advance() + (by_row(OFFER) + advance()) * 33
     again = by_row(OFFER, 0, room=40) + by_row(OFFER, 1, room=30) + advance(4)
     yield 'out-and-in', head(FRESH, 3, ([2, 0, 1], [1, 2, 1]), ([1, 1, 1], [2, 1, 3])) + again * 10
-    yield 'all-out', head(FRESH, 2, ([1, 1], [2, 2])) + by_row(OFFER, times=32) + advance(90)
+    yield 'all-out', head(FRESH, 2, ([1, 1], [2, 2])) + by_row(OFFER, times=MAX_LIVE) + advance(90)
 
 
 def deep():
     """Images that are described: 32 live orders, the last ticks, the last tickets."""
     rows8 = [(list(range(8)), [9 + j for j in range(8)]), ([1] * 8, [40] * 8), ([0] * 8, [1] * 8)]
-    orders = [(k % 3, k % 3, k % 8 + 1, k, 20 * k, 10 * k, 300 + k) for k in range(32)]
+    orders = [(k % 3, k % 3, k % 8 + 1, k, 20 * k, 10 * k, 300 + k) for k in range(MAX_LIVE)]
     serving = [(1 + j % 3, 0 if j % 2 else 128) for j in range(8)]
     end = by_row(QUOTE, room=0) + by_row(OFFER, room=-1) + by_row(OFFER, room=0) + advance(5)
     yield 'full-8', head(DESCRIBED, 8, *rows8) + described((900, 3), (7, 1), orders, serving) + end + advance(100)
-    yield 'live-31', head(DESCRIBED, 8, *rows8) + described((5000, 3), (7, 1), orders[:31], serving) + end + by_row(OFFER) + by_row(OFFER) + advance(100)
+    yield 'live-31', (head(DESCRIBED, 8, *rows8) + described((5000, 3), (7, 1), orders[:MAX_LIVE - 1], serving) + end + by_row(OFFER) + by_row(OFFER) +
+                      advance(100))
     at_each = [(0, 0, j + 1, 0, 50, 9, 60) for j in range(4)]
     yield 'one-to-go', head(DESCRIBED, 4, ([1] * 4, [5] * 4)) + described((70, 3), (0, 0), at_each, [(1, 0)] * 4) + advance(30)
     few = [(0, 0, 1, 2, 9, 5, 40), (1, 0, 2, 0, 7, 9, 0), (0, 0, 2, 3, 0, 0, 200)]
     roomy = [(0, 0, 1, 2, 9, 5, 2000), (1, 0, 2, 0, 7, 9, 9000)]
     two = head(DESCRIBED, 2, ([1, 4], [20, 30]))
     for name, clock in (('last-tick', (0, 1)), ('before-last-tick', (2, 1)), ('near-last-tick', (60, 2)), ('due-at-last-tick', (30000, 2))):
-        yield name, two + described(clock, (3, 1), few, [(1, 0), (2, 130)]) + end + by_row(OFFER, due_in=59) + by_row(OFFER, due_in=60000)
-        yield name + '-nothing-live', two + described(clock, (3, 1), [], [(0, 0)] * 2) + end + by_row(OFFER, due_in=0) + by_row(OFFER, due_in=60000)
+        yield name, two + described(clock, (3, 1), few, [(1, 0), (2, 130)]) + end + by_row(OFFER, due_in=59) + by_row(OFFER, due_in=MAX_DUE_IN)
+        yield name + '-nothing-live', two + described(clock, (3, 1), [], [(0, 0)] * 2) + end + by_row(OFFER, due_in=0) + by_row(OFFER, due_in=MAX_DUE_IN)
     for name, tickets in (('last-ticket', (0, 3)), ('three-tickets', (2, 3)), ('no-ticket', (1, 2)), ('last-is-live', (0, 2))):
         yield name, two + described((500, 3), tickets, roomy, [(0, 0), (1, 0)]) + by_row(QUOTE, room=5) + by_row(OFFER, times=4) + advance(120)
 
@@ -140,22 +149,28 @@ def damaged():
     """One clause of soundness broken in an image of three orders at two stations, each with every call."""
     orders = [(0, 0, 1, 5, 9, 50, 40), (1, 1, 2, 0, 7, 60, 0), (0, 0, 2, 3, 0, 0, 200)]
     good = head(DESCRIBED | PATCHES, 2, ([1, 4], [20, 30]), ([1, 1], [9, 9])) + described((500, 3), (3, 1), orders, [(1, 0), (2, 130)])
-    # Ticket, acceptance, due tick, sum, station, ranks, costs and maxima of the second record.
-    at = 80 + 64
+    # The second record, and its fields.
+    at = record(1)
+    accepted, due, total, station = (at + place for place in (layout.ACCEPTED_AT, layout.DUE_AT, layout.SUM_AT, layout.STATION_AT))
+    ranks, costs, maxima = at + layout.RANKS_AT, at + layout.COSTS_AT, at + layout.MAXIMA_AT
+    n, live, clock = layout.STATION_COUNT_AT, layout.LIVE_COUNT_AT, layout.CLOCK_AT
     calls = by_row(QUOTE) + advance() + by_row(OFFER) + opened(9)
     breaks = {
-        'mark': (0, 1, 0x56), 'version': (3, 2, 2), 'stations-0': (5, 1, 0), 'stations-9': (5, 1, 9), 'stations-1': (5, 1, 1), 'stations-3': (5, 1, 3),
-        'live-33': (6, 1, 33), 'live-less': (6, 1, '-1'), 'live-more': (6, 1, '+1'), 'header-zero': (7, 1, 1), 'clock-beyond': (8, 4, 4000000001),
-        'clock-before': (8, 4, 499), 'next-too-small': (12, 4, 7), 'entry-zero': (16 + 6, 1, 1), 'unused': (80 + 64 * 3, 1, 1), 'last-byte': (2127, 1, 128),
-        'ticket-0': (80, 4, 0), 'tickets-alike': (at, 4, 4), 'accepted-later': (at + 4, 4, 501), 'due-alike': (at + 8, 4, 440),
-        'late-by-one': (at + 8, 4, '-1'), 'due-60001': (at + 8, 4, 60441),
-        'sum-small': (at + 12, 4, 8), 'sum-too-large': (at + 12, 4, '+1'), 'sum-wraps': (at + 12, 4, 2**32 - 440),
-        'station-0': (at + 16, 1, 0), 'station-beyond': (at + 16, 1, 3), 'record-zero': (at + 17, 1, 1), 'rank-beyond': (at + 22, 1, 1),
-        'cost-0': (at + 28, 2, 0), 'cost-beyond': (at + 32, 2, 1), 'maximum-small': (at + 44, 2, '-1'), 'maximum-6001': (at + 46, 2, 6001),
-        'maximum-beyond': (at + 48, 2, 1), 'tail': (at + 63, 1, 1), 'serves-nobody': (24, 4, 1), 'nothing-to-go': (28, 2, 0), 'too-much-to-go': (28, 2, 31),
-        'entry-beyond': (32, 2, 1), 'idle-with-ticks': (16, 4, 0),
+        'mark': (0, 1, 0x56), 'version': (layout.VERSION_AT, 2, layout.VERSION + 1),
+        'stations-0': (n, 1, 0), 'stations-9': (n, 1, MAX_STATIONS + 1), 'stations-1': (n, 1, 1), 'stations-3': (n, 1, 3),
+        'live-33': (live, 1, MAX_LIVE + 1), 'live-less': (live, 1, '-1'), 'live-more': (live, 1, '+1'), 'header-zero': (layout.HEADER_ZERO_AT, 1, 1),
+        'clock-beyond': (clock, 4, LAST_TICK + 1), 'clock-before': (clock, 4, 499), 'next-too-small': (layout.NEXT_AT, 4, 7),
+        'entry-zero': (service(0) + layout.SERVICE_ZERO_AT, 1, 1), 'unused': (record(3), 1, 1), 'last-byte': (IMAGE_SIZE - 1, 1, 128),
+        'ticket-0': (record(0) + layout.TICKET_AT, 4, 0), 'tickets-alike': (at + layout.TICKET_AT, 4, 4), 'accepted-later': (accepted, 4, 501),
+        'due-alike': (due, 4, 440), 'late-by-one': (due, 4, '-1'), 'due-60001': (due, 4, 440 + MAX_DUE_IN + 1),
+        'sum-small': (total, 4, 8), 'sum-too-large': (total, 4, '+1'), 'sum-wraps': (total, 4, 2**32 - 440),
+        'station-0': (station, 1, 0), 'station-beyond': (station, 1, 3), 'record-zero': (at + layout.STATION_ZERO_AT, 1, 1), 'rank-beyond': (ranks + 2, 1, 1),
+        'cost-0': (costs, 2, 0), 'cost-beyond': (costs + 2 * 2, 2, 1), 'maximum-small': (maxima, 2, '-1'), 'maximum-6001': (maxima + 2, 2, MAX_COST + 1),
+        'maximum-beyond': (maxima + 2 * 2, 2, 1), 'tail': (record(2) - 1, 1, 1), 'serves-nobody': (service(1) + layout.SERVED_AT, 4, 1),
+        'nothing-to-go': (service(1) + layout.LEFT_AT, 2, 0), 'too-much-to-go': (service(1) + layout.LEFT_AT, 2, 31),
+        'entry-beyond': (service(2) + layout.SERVED_AT, 2, 1), 'idle-with-ticks': (service(0) + layout.SERVED_AT, 4, 0),
     }
-    yield 'unbroken', good + b'\x00' + patch(3, 7, 1, 0) + calls
+    yield 'unbroken', good + b'\x00' + patch(3, layout.HEADER_ZERO_AT, 1, 0) + calls
     for name, change in breaks.items():
         yield 'broken-' + name, good + b'\x00' + patch(3, *change) + calls
 
@@ -163,32 +178,36 @@ def damaged():
 def forms():
     """Wrong lengths, order blocks that are out of range, and images by their bytes."""
     row = head(FRESH, 3, ([1, 2, 3], [4, 5, 6]))
-    order = block(600, [1, 2, 3] + [0] * 5, [4, 5, 6] + [0] * 5)
+    order = block(600, [1, 2, 3], [4, 5, 6])
     text = row
     for code in range(1, 7):
         text += lengths(ADVANCE, code, 0, 0) + lengths(ADVANCE, 0, 0, code) + lengths(OPEN, code, 0, 0, b'\x02') + lengths(OPEN, 0, 0, code, b'\x02')
         for which in (OFFER, QUOTE):
             text += lengths(which, code, 0, 0, b'\x08') + lengths(which, 0, code, 0, b'\x08') + lengths(which, 0, 0, code, b'\x08')
     yield 'lengths', text
-    yield 'lengths-said', row + said(OFFER, 2128, 28, 16) + b'\x08' + said(ADVANCE, 2300, 0, 16) + said(ADVANCE, 2128, 0, 2300) + said(QUOTE, 2128, 2300, 16)
+    yield 'lengths-said', (row + said(OFFER, IMAGE_SIZE, BLOCK_SIZE, REPLY_SIZE) + b'\x08' + said(ADVANCE, LONGEST, 0, REPLY_SIZE) +
+                           said(ADVANCE, IMAGE_SIZE, 0, LONGEST) + said(QUOTE, IMAGE_SIZE, LONGEST, REPLY_SIZE))
     yield 'places', row + by_row(OFFER, flags=AT_START) + advance(flags=AT_START) + opened(4, AT_START) + lengths(OFFER | AT_START, 1, 1, 1, b'\x08')
-    yield 'replies', row + by_row(OFFER, flags=REPLY) + b'\xff' * 16 + advance(flags=REPLY) + b'\x5a' * 16 + by_row(QUOTE, due_in=1, flags=REPLY) + b'\x80' * 16
-    bad = [block(0, [1, 2, 3] + [0] * 5, [4, 5, 0] + [0] * 5), block(600, [0] * 8, [6001, 1, 1] + [0] * 5),
-           block(600, [0] * 3 + [1] + [0] * 4, [1] * 3 + [0] * 5), block(600, [0] * 8, [1] * 3 + [0] * 4 + [256]),
-           block(60000, [0] * 8, [6000] * 3 + [0] * 5), block(60001, [0] * 8, [1] * 3 + [0] * 5),
-           block(2**32 - 1, [0] * 8, [1] * 3 + [0] * 5), block(1, [0] * 8, [1] * 3 + [0] * 5), block(0, [255] * 3 + [0] * 5, [1, 2, 3] + [0] * 5), order]
+    yield 'replies', (row + by_row(OFFER, flags=REPLY) + b'\xff' * REPLY_SIZE + advance(flags=REPLY) + b'\x5a' * REPLY_SIZE +
+                      by_row(QUOTE, due_in=1, flags=REPLY) + b'\x80' * REPLY_SIZE)
+    bad = [block(0, [1, 2, 3], [4, 5, 0]), block(600, [], [MAX_COST + 1, 1, 1]), block(600, [0] * 3 + [1], [1] * 3), block(600, [], [1] * 3 + [0] * 4 + [256]),
+           block(MAX_DUE_IN, [], [MAX_COST] * 3), block(MAX_DUE_IN + 1, [], [1] * 3), block(2**32 - 1, [], [1] * 3), block(1, [], [1] * 3),
+           block(0, [255] * 3, [1, 2, 3]), order]
     yield 'blocks', row + b''.join(by_bytes(QUOTE, b) + by_bytes(OFFER, b) for b in bad) + advance(20)
-    yield 'patched', (row + by_row(OFFER, times=3) + bytes([ADVANCE | PATCHED]) + patch(3, 80 + 16, 1, 9) + advance(3) +
-                      by_row(OFFER, flags=PATCHED) + b'\x0c\x04' + bytes([OPEN | PATCHED, 9]) + patch(4, 5, 1, 9) + by_row(QUOTE, flags=PATCHED) + b'\x07\x01')
+    yield 'patched', (row + by_row(OFFER, times=3) + bytes([ADVANCE | PATCHED]) + patch(3, record(0) + layout.STATION_AT, 1, 9) + advance(3) +
+                      by_row(OFFER, flags=PATCHED) + bytes([layout.BLOCK_COSTS_AT, 4]) +
+                      bytes([OPEN | PATCHED, 9]) + patch(4, layout.STATION_COUNT_AT, 1, MAX_STATIONS + 1) +
+                      by_row(QUOTE, flags=PATCHED) + bytes([layout.BLOCK_RANKS_AT + 3, 1]))
     yield 'opens', row + b''.join(opened(k) for k in (1, 8, 0, 9, 254, 255, 256, 257, 2**31, 2**32 - 1, 5)) + by_row(OFFER) + advance()
-    yield 'no-image', head(BYTES, 1, ([0], [1])) + bytes(range(256)) * 8 + bytes(80) + by_row(QUOTE) + advance() + by_row(OFFER) + opened(1) + by_row(OFFER)
+    none = bytes(k % 256 for k in range(IMAGE_SIZE - 80)) + bytes(80)
+    yield 'no-image', head(BYTES, 1, ([0], [1])) + none + by_row(QUOTE) + advance() + by_row(OFFER) + opened(1) + by_row(OFFER)
 
 
 def of_the_simulator(simulator):
     """Lists of calls and images that the second simulator makes."""
     with tempfile.TemporaryDirectory() as folder:
         for kind, count in (('calls', 6), ('images', 3)):
-            words = [simulator, '--level', '0', 'gen', kind, '--seed', str(SEED), '--count', str(count), '--out', folder]
+            words = at_level(simulator, 'gen', kind, '--seed', str(SEED), '--count', str(count), '--out', folder)
             subprocess.run(words + (['--calls', '12'] if kind == 'calls' else []), check=True, stdout=subprocess.DEVNULL)
         for file in sorted(os.listdir(folder)):
             if not file.endswith('.txt'):
@@ -208,18 +227,35 @@ def of_the_simulator(simulator):
 
 def of_a_line(words):
     """A call of a list: CALL ARGUMENTS REPLY-BEFORE -> and what it gave."""
-    which = ['advance', 'offer', 'quote', 'open'].index(words[0])
+    calls = ['advance', 'offer', 'quote', 'open']
+    if words[0] not in calls:
+        sys.exit(f"seeds.py: the second simulator's lists have the call '{words[0]}', for which fuzz.c has no form")
+    which = calls.index(words[0])
     before = words[:words.index('->')]
     reply = b'' if before[-1] == '-' else bytes.fromhex(before[-1])
     order = b'' if which in (ADVANCE, OPEN) or before[1] == '-' else bytes.fromhex(before[1])
-    text = said(which | BLOCK | REPLY, 2128, len(order), len(reply)) + order
+    text = said(which | BLOCK | REPLY, IMAGE_SIZE, len(order), len(reply)) + order
     if which == OPEN:
         text += b'\xff' + little(int(before[1], 16), 4)
     return text + reply
 
 
+def quoted(text):
+    return ''.join(f'\\x{byte:02x}' for byte in text)
+
+
+def words():
+    """A line for each."""
+    yield "# Words for AFL++ to put into inputs: the mark and version, and the ends of the ranges of document 01, low byte first."
+    yield 'mark="' + layout.MARK.decode() + quoted(layout.HEAD[len(layout.MARK):]) + '"'
+    for name, value, width in (('cost_most', MAX_COST, 2), ('cost_above', MAX_COST + 1, 2), ('due_in_most', MAX_DUE_IN, 4), ('due_in_above', MAX_DUE_IN + 1, 4),
+                               ('due_in_default', layout.DEFAULT_DUE_IN, 4), ('last_tick', LAST_TICK, 4), ('after_last_tick', LAST_TICK + 1, 4),
+                               ('last_ticket', layout.LAST_TICKET, 4)):
+        yield f'{name}="{quoted(little(value, width))}"'
+
+
 def main():
-    simulator, folder = sys.argv[1:]
+    simulator, folder, word_file = sys.argv[1:]
     os.makedirs(folder, exist_ok=True)
     names = set()
     for made in (counter(), long_runs(), deep(), damaged(), forms(), of_the_simulator(simulator)):
@@ -228,6 +264,8 @@ def main():
             names.add(name)
             with open(os.path.join(folder, name), 'wb') as file:
                 file.write(text)
+    with open(word_file, 'w', encoding='ascii') as file:
+        file.writelines(line + '\n' for line in words())
     print(f'{len(names)} inputs')
 
 

@@ -10,6 +10,11 @@ import struct
 import subprocess
 import sys
 import time
+from pathlib import Path
+
+sys.path.insert(0, str(Path(__file__).resolve().parent.parent))
+import layout
+from layout import put
 
 # The clauses of "Sound means" in document 01's order, each with the simulator's finer names for its parts.
 CLAUSES = {
@@ -34,8 +39,6 @@ PARTS = {part: clause for clause, parts in CLAUSES.items() for part in parts}
 # No image breaks this part alone (NOTES 13): an order that is due at its acceptance is not on time either. It must be seen with others.
 NEVER_ALONE = {"DueLeast"}
 
-SIZE = 2128
-
 
 class Image:
     """An image, where it comes from, the simulator's number, and the parts that it breaks (None where the simulator does not say)."""
@@ -53,9 +56,9 @@ def bytes_of(text):
 
 
 def number_told(line):
-    """What a call's line tells of questions 2 to 4: their number, 0 if they pass, None if the call does not ask them of a reply of 16 bytes."""
+    """What a call's line tells of questions 2 to 4: their number, 0 if they pass, None if the call does not ask them of a reply of the right length."""
     before, after = line.split(" -> ")
-    if before.startswith("open ") or len(bytes_of(before.split(" ")[-1])) != 16:
+    if before.startswith("open ") or len(bytes_of(before.split(" ")[-1])) != layout.REPLY_SIZE:
         return None
     number = int(after.split(" ")[0])
     assert number != 1
@@ -63,7 +66,7 @@ def number_told(line):
 
 
 def damaged_images(folder, name):
-    """The images of `gen images`. The first call after each is a quote with a reply of 16 bytes."""
+    """The images of `gen images`. The first call after each is a quote with a reply of the right length."""
     lines = open(os.path.join(folder, name + ".txt")).read().splitlines()
     names = open(os.path.join(folder, name + ".names")).read().splitlines()
     at = [k for k, line in enumerate(lines) if line.startswith("image ")]
@@ -91,52 +94,57 @@ def first_image(folder, name):
 
 def by_the_paper(sound, unsound):
     """Lengths, marks and versions of which document 01 alone tells the number. Every bit of mark and version counts; 2 comes before 3, and 3 before 4."""
-    for length in [0, 1, 5, 16, 79, 80, 2064, 2127]:
+    size = layout.IMAGE_SIZE
+    for length in [0, 1, layout.STATION_COUNT_AT, layout.SERVICES_AT, layout.RECORDS_AT - 1, layout.RECORDS_AT, size - layout.RECORD_SIZE, size - 1]:
         yield Image(f"the first {length} bytes", sound[:length], 2, [])
-    for length in [2129, 2192, 3152, 4256]:
+    for length in [size + 1, size + layout.RECORD_SIZE, layout.OTHER_IMAGE_SIZE, 2 * size]:
         yield Image(f"{length} bytes", (sound + bytes(length))[:length], 2, [])
     for base, kind in [(sound, "a sound image"), (unsound, "an unsound image")]:
-        for bit in range(40):
+        for bit in range(8 * len(layout.HEAD)):
             data = bytearray(base)
             data[bit // 8] ^= 1 << bit % 8
             yield Image(f"{kind} with bit {bit % 8} of byte {bit // 8} turned", bytes(data), 3, [])
-    yield Image("zeros", bytes(SIZE), 3, [])
-    yield Image("another mark and a byte too many", bytes(SIZE + 1), 2, [])
+    yield Image("zeros", bytes(size), 3, [])
+    yield Image("another mark and a byte too many", bytes(size + 1), 2, [])
 
 
-def put(image, form, at, *values):
-    struct.pack_into("<" + form, image, at, *values)
+def accepted_at(b, r, tick):
+    """Accepted then, and due 50,000 ticks later."""
+    put(b, r + layout.ACCEPTED_AT, tick, 4)
+    put(b, r + layout.DUE_AT, tick + 50000, 4)
 
 
 # One way to break each clause alone in the image that `two_orders` makes: at the record that starts at byte r, or in the image as a whole.
 BREAKS = {
-    "station-count": lambda b, r: put(b, "B", 5, 9),
-    "live-count": lambda b, r: put(b, "B", 6, 33),
-    "clock": lambda b, r: put(b, "I", 8, 4000000001),
-    "zero-bytes": lambda b, r: put(b, "B", r + 18, 1),
-    "unused-records": lambda b, r: put(b, "B", SIZE - 1, 1),
-    "tickets": lambda b, r: put(b, "I", r, 7 if r == 80 else 2),
-    "acceptance": lambda b, r: put(b, "II", r + 4, 4000000000 - 50000, 4000000000),
-    "due": lambda b, r: put(b, "I", r + 8, 500 + 60001),
-    "station": lambda b, r: put(b, "B", r + 16, 3),
-    "costs": lambda b, r: put(b, "H", r + 28, 0),
-    "maxima": lambda b, r: put(b, "H", r + 46, 6001),
-    "sum": lambda b, r: put(b, "I", r + 12, 199),
-    "on-time": lambda b, r: put(b, "I", r + 8, 500 + 300 + 150 - 1),
-    "beyond": lambda b, r: put(b, "B", r + 27, 1),
-    "services": lambda b, r: put(b, "IH", 16, 0, 1),
+    "station-count": lambda b, r: put(b, layout.STATION_COUNT_AT, layout.MAX_STATIONS + 1, 1),
+    "live-count": lambda b, r: put(b, layout.LIVE_COUNT_AT, layout.MAX_LIVE + 1, 1),
+    "clock": lambda b, r: put(b, layout.CLOCK_AT, layout.LAST_TICK + 1, 4),
+    "zero-bytes": lambda b, r: put(b, r + layout.RANKS_AT - 2, 1, 1),
+    "unused-records": lambda b, r: put(b, layout.IMAGE_SIZE - 1, 1, 1),
+    "tickets": lambda b, r: put(b, r + layout.TICKET_AT, 7 if r == layout.record(0) else 2, 4),
+    "acceptance": lambda b, r: accepted_at(b, r, layout.LAST_TICK - 50000),
+    "due": lambda b, r: put(b, r + layout.DUE_AT, 500 + layout.MAX_DUE_IN + 1, 4),
+    "station": lambda b, r: put(b, r + layout.STATION_AT, 3, 1),
+    "costs": lambda b, r: put(b, r + layout.COSTS_AT, 0, 2),
+    "maxima": lambda b, r: put(b, r + layout.MAXIMA_AT + 2, layout.MAX_COST + 1, 2),
+    "sum": lambda b, r: put(b, r + layout.SUM_AT, 199, 4),
+    "on-time": lambda b, r: put(b, r + layout.DUE_AT, 500 + 300 + 150 - 1, 4),
+    "beyond": lambda b, r: put(b, r + layout.RANKS_AT + layout.MAX_STATIONS - 1, 1, 1),
+    "services": lambda b, r: put(b, layout.service(0) + layout.LEFT_AT, 1, 2),
 }
 
 
 def two_orders():
     """A sound image: 2 stations, clock 1,000, next ticket 6, tickets 3 and 5, both accepted at 500 and waiting at station 2."""
-    b = bytearray(SIZE)
-    put(b, "3sHBB", 0, b"WMC", 1, 2, 2)
-    put(b, "II", 8, 1000, 6)
-    for r, ticket in ((80, 3), (144, 5)):
-        put(b, "IIIIB", r, ticket, 500, 500 + 50000, 300, 2)
-        put(b, "HH", r + 28, 100, 200)
-        put(b, "HH", r + 44, 150, 250)
+    b = layout.empty_image(2, 1000, 6)
+    b[layout.LIVE_COUNT_AT] = 2
+    for r, ticket in ((layout.record(0), 3), (layout.record(1), 5)):
+        put(b, r + layout.TICKET_AT, ticket, 4)
+        accepted_at(b, r, 500)
+        put(b, r + layout.SUM_AT, 300, 4)
+        put(b, r + layout.STATION_AT, 2, 1)
+        layout.put_row(b, r + layout.COSTS_AT, [100, 200], 2)
+        layout.put_row(b, r + layout.MAXIMA_AT, [150, 250], 2)
     return b
 
 
@@ -147,22 +155,24 @@ def two_breaks():
     for one in CLAUSES:
         for other in CLAUSES:
             b = two_orders()
-            BREAKS[one](b, 80)
-            BREAKS[other](b, 144)
+            BREAKS[one](b, layout.record(0))
+            BREAKS[other](b, layout.record(1))
             yield Image(f"{one} broken at the first order, {other} at the second", bytes(b), 4, [CLAUSES[one][0], CLAUSES[other][0]])
 
 
 def told(image):
     """What a sound image says, from document 01's table: the lines that `inspect` prints for it."""
-    n, live, clock, upcoming = struct.unpack_from("<5xBBxII", image)
-    lines = [f"stations {n}", f"clock {clock}", f"next {upcoming}"]
+    n = image[layout.STATION_COUNT_AT]
+    lines = [f"stations {n}", f"clock {layout.get(image, layout.CLOCK_AT, 4)}", f"next {layout.get(image, layout.NEXT_AT, 4)}"]
     for k in range(n):
-        ticket, left = struct.unpack_from("<IH2x", image, 16 + 8 * k)
+        ticket, left = layout.get(image, layout.service(k) + layout.SERVED_AT, 4), layout.get(image, layout.service(k) + layout.LEFT_AT, 2)
         lines.append(f"station {k + 1} " + (f"ticket {ticket} left {left}" if ticket else "idle"))
-    for k in range(live):
-        fields = struct.unpack_from("<IIIIB3x8B8H8H4x", image, 80 + 64 * k)
-        ticket, accepted, due, total, station = fields[:5]
-        ranks, costs, maxima = (" ".join(map(str, fields[i : i + n])) for i in (5, 13, 21))
+    for k in range(image[layout.LIVE_COUNT_AT]):
+        r = image[layout.record(k):layout.record(k + 1)]
+        ticket, accepted, due, total = (layout.get(r, at, 4) for at in (layout.TICKET_AT, layout.ACCEPTED_AT, layout.DUE_AT, layout.SUM_AT))
+        station = r[layout.STATION_AT]
+        rows = ((layout.RANKS_AT, 1), (layout.COSTS_AT, 2), (layout.MAXIMA_AT, 2))
+        ranks, costs, maxima = (" ".join(map(str, layout.get_row(r, at, width)[:n])) for at, width in rows)
         lines.append(f"order {ticket} accepted {accepted} due {due} sum {total} station {station} ranks {ranks} costs {costs} maxima {maxima}")
     return lines
 
@@ -206,7 +216,7 @@ def main():
             if first is not None:
                 images.append(first)
     generated = len(images)
-    sound = next(i.data for i in images if i.number == 0 and i.data[6] >= 2)
+    sound = next(i.data for i in images if i.number == 0 and i.data[layout.LIVE_COUNT_AT] >= 2)
     unsound = next(i.data for i in images if i.number == 4)
     images += by_the_paper(sound, unsound)
     images += two_breaks()
@@ -219,7 +229,7 @@ def main():
     began = time.monotonic()
     for k, image in enumerate(images):
         runs = [inspected(inspect, image.data)]
-        if k % 500 == 0 and len(image.data) == SIZE:
+        if k % 500 == 0 and len(image.data) == layout.IMAGE_SIZE:
             runs.append(inspected_in_pieces(inspect, image.data))
         for text, status in runs:
             if image.broken is None:
@@ -238,12 +248,12 @@ def main():
     print(f"{generated} images of the simulator, {len(images) - generated} by the paper; inspect was run for each ({took:.1f} s)")
     for number in (0, 2, 3, 4):
         print(f"number {number}: {sum(i.number == number for i in images):5}")
-    lives = {i.data[6] for i in images if i.number == 0}
-    stations = {i.data[5] for i in images if i.number == 0}
+    lives = {i.data[layout.LIVE_COUNT_AT] for i in images if i.number == 0}
+    stations = {i.data[layout.STATION_COUNT_AT] for i in images if i.number == 0}
     print(f"sound images have {min(lives)} to {max(lives)} live orders and {min(stations)} to {max(stations)} stations")
     missing = []
-    if not {0, 1, 31, 32} <= lives or stations != set(range(1, 9)):
-        missing.append("sound images of every N, with 0, 1, 31 and 32 live orders")
+    if not {0, 1, layout.MAX_LIVE - 1, layout.MAX_LIVE} <= lives or stations != set(range(1, layout.MAX_STATIONS + 1)):
+        missing.append(f"sound images of every N, with 0, 1, {layout.MAX_LIVE - 1} and {layout.MAX_LIVE} live orders")
     print("the simulator's images, by the parts of clauses that they break:")
     print(f"{'clause':15} {'part':16} {'alone':>6} {'first of several':>17}")
     for part, clause in PARTS.items():

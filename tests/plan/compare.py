@@ -20,6 +20,9 @@ import sys
 import termios
 from pathlib import Path
 
+sys.path.insert(0, str(Path(__file__).resolve().parent.parent))
+from level import at_level
+
 LONGEST = 16384  # bytes of an input
 LATE, ON_TIME = b" late\n", b" on-time\n"
 
@@ -94,8 +97,8 @@ def main():
     plan, simulator, tables, random = sys.argv[1:]
     stored, made = outputs(tables, 3), outputs(random, 5)
     for path, given, expected in stored:
-        if printed([simulator, "--level", "0", "plan"], given, path.name) != expected:
-            fail(f"{path}: not what the second simulator prints")
+        if printed(at_level(simulator, "plan"), given, path.name) != expected:
+            fail(f"{path}: not what the second simulator prints. To make it anew: tests/stored")
     print(f"the second simulator prints the {len(stored)} stored outputs")
     for path, given, expected in stored + made:
         same(printed([plan], given, path.name), expected, path.name, "all bytes at once")

@@ -2,14 +2,14 @@
  * It draws the same calls as crates/soak by arithmetic of its own, makes them, and prints the same rows: cabinet, calls, clock, live orders, orders
  * accepted and out, calls declined by 6, 7, 10, 11 and 12, and a digest of every reply and of the image after every call. At the end it says on standard
  * error how often each call gave each number. */
+#include "../../firmware/bytes.h"
+#include "../layout.h"
+
 #include <inttypes.h>
-#include <stdint.h>
 #include <stdio.h>
 #include <string.h>
 
-#include "dispatcher.h"
-
-#define CABINETS 8
+#define CABINETS MAX_STATIONS
 #define ROWS 25   /* of a cabinet */
 #define CALLS 500 /* of a row */
 
@@ -32,12 +32,12 @@ static uint32_t pick(uint32_t s, uint32_t k)
 
 static uint32_t most_cost(uint32_t v)
 {
-    return v < 40 ? 6 : v < 60 ? 30 : v < 63 ? 200 : 6001;
+    return v < 40 ? 6 : v < 60 ? 30 : v < 63 ? 200 : MAX_COST + 1;
 }
 
 static uint32_t draw_due_in(uint32_t v, uint32_t s)
 {
-    return v == 0 ? 59994 + pick(s, 12) : v < 3 ? 0 : v == 3 ? pick(s, 100) : pick(s, 3000);
+    return v == 0 ? MAX_DUE_IN - 6 + pick(s, 12) : v < 3 ? 0 : v == 3 ? pick(s, 100) : pick(s, 3000);
 }
 
 /* Costs and ranks are drawn for as many stations as there are, sometimes for one less or one more. */
@@ -51,15 +51,12 @@ static void draw_order(uint8_t *block, uint32_t s, uint32_t n)
     uint32_t a = step(s), b = step(a), c = step(b);
     uint32_t due_in = draw_due_in(pick(c, 8), jump(s)), ranks = jump(b), costs = jump(a);
     uint32_t most = most_cost(pick(a, 64)), stations = drawn_for(pick(b, 24), n);
-    memset(block, 0, 28);
-    for (int k = 0; k < 4; k++)
-        block[k] = due_in >> 8 * k & 255;
-    for (uint32_t k = 0; k < 8 && k < stations; k++) {
+    memset(block, 0, BLOCK_SIZE);
+    put4(block + BLOCK_DUE_IN_AT, due_in);
+    for (uint32_t k = 0; k < MAX_STATIONS && k < stations; k++) {
         costs = step(costs);
-        uint32_t cost = 1 + pick(costs, most);
-        block[4 + k] = ranks >> (16 + 2 * k) & 3;
-        block[12 + 2 * k] = cost & 255;
-        block[13 + 2 * k] = cost >> 8;
+        block[BLOCK_RANKS_AT + k] = ranks >> (16 + 2 * k) & 3;
+        put2(block + BLOCK_COSTS_AT + 2 * k, 1 + pick(costs, most));
     }
 }
 
@@ -70,16 +67,11 @@ static uint32_t fold(uint32_t digest, const uint8_t *bytes, size_t length)
     return digest;
 }
 
-static uint32_t four(const uint8_t *at)
-{
-    return at[0] | at[1] << 8 | at[2] << 16 | (uint32_t)at[3] << 24;
-}
-
 enum { QUOTE, OFFER, ADVANCE };
 static const char *const names[] = {"quote", "offer", "advance"};
 static uint32_t given[3][15]; /* how often, over all cabinets */
 
-static uint8_t image[2128], reply[16], block[28];
+static uint8_t image[IMAGE_SIZE], reply[REPLY_SIZE], block[BLOCK_SIZE];
 static uint32_t seed, calls, accepted, out, declined[15], digest;
 
 static void call(uint32_t n)
@@ -89,7 +81,7 @@ static void call(uint32_t n)
     seed = step(drawn);
     if (which == ADVANCE) {
         number = dispatcher_advance(image, sizeof image, reply, sizeof reply);
-        out += number == 0 && four(reply + 4) != 0;
+        out += number == 0 && get4(reply + REPLY_TICKET_AT) != 0;
     } else {
         draw_order(block, seed, n);
         if (which == QUOTE)
@@ -106,7 +98,8 @@ static void call(uint32_t n)
 
 static void print(uint32_t n)
 {
-    const uint32_t row[] = {n, calls, four(image + 8), image[6], accepted, out, declined[6], declined[7], declined[10], declined[11], declined[12], digest};
+    const uint32_t row[] = {n, calls, get4(image + CLOCK_AT), image[LIVE_COUNT_AT], accepted, out, declined[6], declined[7], declined[10], declined[11],
+                            declined[12], digest};
     printf("cabinet");
     for (size_t i = 0; i < sizeof row / sizeof *row; i++)
         printf(" %" PRIu32, row[i]);

@@ -132,13 +132,13 @@ static uint32_t one(int call, const struct extreme *e, size_t image_length, size
 static void damaged_image(const struct extreme *e)
 {
     for (int call = QUOTE; call <= ADVANCE; call++)
-        one(call, e, IMAGE_SIZE, ORDER_SIZE, REPLY_SIZE, 0);
+        one(call, e, IMAGE_SIZE, BLOCK_SIZE, REPLY_SIZE, 0);
 }
 
 static void sound_image(const struct extreme *e)
 {
     for (int call = QUOTE; call <= ADVANCE; call++) {
-        uint32_t number = one(call, e, IMAGE_SIZE, ORDER_SIZE, REPLY_SIZE, 0);
+        uint32_t number = one(call, e, IMAGE_SIZE, BLOCK_SIZE, REPLY_SIZE, 0);
         if (number >= 1 && number <= 4) {
             printf("%s: %s was declined by %lu\n", e->what, call_names[call], (unsigned long)number);
             exit(1);
@@ -149,9 +149,10 @@ static void sound_image(const struct extreme *e)
 /* Lengths that are one off, or 0, and every number of stations that a byte has. */
 static void lengths_and_stations(void)
 {
-    static const size_t images[] = {0, IMAGE_SIZE - 1, IMAGE_SIZE, IMAGE_SIZE + 1}, orders[] = {0, ORDER_SIZE - 1, ORDER_SIZE, ORDER_SIZE + 1},
+    static const size_t images[] = {0, IMAGE_SIZE - 1, IMAGE_SIZE, IMAGE_SIZE + 1}, orders[] = {0, BLOCK_SIZE - 1, BLOCK_SIZE, BLOCK_SIZE + 1},
                         replies[] = {0, REPLY_SIZE - 1, REPLY_SIZE, REPLY_SIZE + 1};
-    static struct extreme e = {.what = "a fresh image, lengths one off or 0", .image = {'W', 'M', 'C', 1, 0, 8, 0, 0, 0, 0, 0, 0, 1}};
+    static struct extreme e = {.what = "a fresh image, lengths one off or 0",
+                               .image = {MARK, VERSION & 255, VERSION >> 8, [STATION_COUNT_AT] = 8, [NEXT_AT] = 1}};
     for (int call = OPEN; call < CALLS; call++)
         for (int k = 0; k < 64; k++)
             one(call, &e, images[k % 4], orders[k / 4 % 4], replies[k / 16], 8);

@@ -9,8 +9,6 @@
  * that are lent undefined are those of the program's argument, and the last line, a sum over all numbers, replies and images, has to be the same with any. */
 #include "../c/image.h"
 
-#include "dispatcher.h"
-
 #include <valgrind/memcheck.h>
 
 enum { OPEN, QUOTE, OFFER, ADVANCE, CALLS };
@@ -18,13 +16,13 @@ static const char *const names[CALLS] = {"open", "quote", "offer", "advance"};
 static const uint32_t numbers_of[CALLS] = {0x4007, 0x1fff, 0x1fff, 0x201f}; /* bit k: the call may give the number k */
 
 static int filler;
-static unsigned long seen[CALLS][15], outs, moves, live_at[33];
+static unsigned long seen[CALLS][15], outs, moves, live_at[MAX_LIVE + 1];
 static uint64_t sum = 0xcbf29ce484222325u;
 
 /* The order block of the next calls. */
 static uint8_t order[64];
 static size_t order_length;
-static uint8_t reply[16]; /* of the call before */
+static uint8_t reply[REPLY_SIZE]; /* of the call before */
 
 static void add(const uint8_t *bytes, size_t length)
 {
@@ -84,8 +82,12 @@ static void one_call(int call, const char *name, int hidden, uint32_t stations, 
     sprintf(what, "%s: %s, image of %lu bytes, order of %lu, reply of %lu", names[call], name, (unsigned long)image_length, (unsigned long)order_length,
             (unsigned long)reply_length);
     uint8_t *i = exactly(image, image_length), *o = exactly(order, order_length), *r = exactly(image, reply_length);
-    size_t image_from = hidden & IMAGE ? 0 : hidden & BEHIND_MARK ? 5 : image_length;
-    size_t order_from = hidden & RANKS_OF_TWO ? 4 : 0, order_to = hidden & ORDER ? order_length : hidden & DUE_IN ? 4 : hidden & RANKS_OF_TWO ? 6 : 0;
+    size_t image_from = hidden & IMAGE ? 0 : hidden & BEHIND_MARK ? sizeof mark_and_version : image_length;
+    size_t order_from = hidden & RANKS_OF_TWO ? BLOCK_RANKS_AT : BLOCK_DUE_IN_AT;
+    size_t order_to = hidden & ORDER          ? order_length
+                      : hidden & DUE_IN       ? BLOCK_RANKS_AT
+                      : hidden & RANKS_OF_TWO ? BLOCK_RANKS_AT + 2
+                                              : 0;
     hide(i + image_from, image_length - image_from);
     hide(o + order_from, order_to - order_from);
     hide(r, reply_length);
@@ -107,7 +109,7 @@ static void one_call(int call, const char *name, int hidden, uint32_t stations, 
         expect_defined(r, reply_length, "reply");
         memcpy(reply, r, sizeof reply);
         add(reply, sizeof reply);
-        CHECK(word(reply) == number);
+        CHECK(get4(reply + REPLY_NUMBER_AT) == number);
     }
     if (image_from < image_length && number != 0) {
         expect_untouched(i + image_from, image_length - image_from, "the image was written");
@@ -131,7 +133,7 @@ static void one_call(int call, const char *name, int hidden, uint32_t stations, 
 static void block(uint32_t due_in, const uint8_t *ranks, const uint16_t *costs)
 {
     memset(order, 0, sizeof order);
-    order_length = 28;
+    order_length = BLOCK_SIZE;
     put_block(order, due_in, ranks, costs);
 }
 
@@ -143,7 +145,8 @@ static void both_calls(const char *name, int hidden, uint32_t number)
 
 /* ---- questions that are asked of lengths, and of the image alone ---- */
 
-static const size_t lengths[] = {0, 1, 4, 15, 16, 17, 27, 28, 29, 79, 80, 2127, 2128, 2129, 4000};
+static const size_t lengths[] = {0, 1, 4, REPLY_SIZE - 1, REPLY_SIZE, REPLY_SIZE + 1, BLOCK_SIZE - 1, BLOCK_SIZE, BLOCK_SIZE + 1,
+                                 RECORDS_AT - 1, RECORDS_AT, IMAGE_SIZE - 1, IMAGE_SIZE, IMAGE_SIZE + 1, 4000};
 
 static void wrong_lengths(void)
 {
@@ -151,21 +154,21 @@ static void wrong_lengths(void)
     for (size_t k = 0; k < sizeof lengths / sizeof *lengths; k++) {
         for (size_t j = 0; j < sizeof lengths / sizeof *lengths; j++) {
             image_length = lengths[k];
-            order_length = lengths[j] < sizeof order ? lengths[j] : 28;
+            order_length = lengths[j] < sizeof order ? lengths[j] : BLOCK_SIZE;
             reply_length = lengths[j];
-            if (reply_length != 16) {
+            if (reply_length != REPLY_SIZE) {
                 for (uint32_t n = 0; n <= 9; n += 3)
                     one_call(OPEN, "a wrong reply", BOTH, n, 1);
                 both_calls("a wrong reply", BOTH, 1);
                 one_call(ADVANCE, "a wrong reply", BOTH, 0, 1);
             }
-            reply_length = 16;
-            if (image_length != 2128) {
+            reply_length = REPLY_SIZE;
+            if (image_length != IMAGE_SIZE) {
                 for (uint32_t n = 0; n <= 9; n += 3)
                     one_call(OPEN, "a wrong image", BOTH, n, 2);
                 both_calls("a wrong image", BOTH, 2);
                 one_call(ADVANCE, "a wrong image", BOTH, 0, 2);
-            } else if (order_length != 28) {
+            } else if (order_length != BLOCK_SIZE) {
                 both_calls("a wrong order", ORDER, 5);
             }
         }
@@ -177,11 +180,11 @@ static void on_damaged(const char *name, int place, uint32_t number)
 {
     static char before[100];
     int hidden = number == 3 ? ORDER | BEHIND_MARK : ORDER;
-    if (place != 0 && strcmp(name, before) == 0 && memcmp(image, after, 2128) == 0)
+    if (place != 0 && strcmp(name, before) == 0 && memcmp(image, after, IMAGE_SIZE) == 0)
         return;
     strcpy(before, name);
-    memcpy(after, image, 2128);
-    order_length = 28;
+    memcpy(after, image, IMAGE_SIZE);
+    order_length = BLOCK_SIZE;
     both_calls(name, hidden, number);
     one_call(ADVANCE, name, hidden, 0, number);
 }
@@ -189,16 +192,16 @@ static void on_damaged(const char *name, int place, uint32_t number)
 static void opens(void)
 {
     static const uint32_t others[] = {0, 9, 10, 255, 256, 257, 0x80000001u, 0xffffffffu};
-    image_length = 2128;
-    reply_length = 16;
+    image_length = IMAGE_SIZE;
+    reply_length = REPLY_SIZE;
     order_length = 0;
     for (size_t k = 0; k < sizeof others / sizeof *others; k++)
         one_call(OPEN, "no such cabinet", IMAGE, others[k], 14);
-    for (uint32_t n = 1; n <= 8; n++) {
+    for (uint32_t n = 1; n <= MAX_STATIONS; n++) {
         fresh_image((uint8_t)n);
-        memcpy(after, image, 2128);
+        memcpy(after, image, IMAGE_SIZE);
         one_call(OPEN, "an image that held nothing", IMAGE, n, 0);
-        CHECK(memcmp(image, after, 2128) == 0);
+        CHECK(memcmp(image, after, IMAGE_SIZE) == 0);
     }
 }
 
@@ -209,11 +212,11 @@ static void declines_at_the_counter(void)
     fresh_image(3);
     block(600, RANKS(1, 2, 3), ROW(4, 5, 0));
     both_calls("cost 0", DUE_IN, 6);
-    block(600, RANKS(1, 2, 3), ROW(4, 6001, 6));
+    block(600, RANKS(1, 2, 3), ROW(4, MAX_COST + 1, 6));
     both_calls("cost 6,001", DUE_IN, 6);
     block(600, RANKS(1, 2, 3, 4), ROW(4, 5, 6));
     both_calls("rank beyond N", DUE_IN, 6);
-    block(60001, RANKS(1, 2, 3), ROW(4, 5, 6));
+    block(MAX_DUE_IN + 1, RANKS(1, 2, 3), ROW(4, 5, 6));
     both_calls("due-in 60,001", RANKS_OF_TWO, 7);
     block(10, RANKS(0), ROW(4, 5, 6));
     both_calls("late", RANKS_OF_TWO, 11);
@@ -221,14 +224,14 @@ static void declines_at_the_counter(void)
     block(600, RANKS(0), ROW(4, 5, 6));
     one_call(QUOTE, "on time whatever the ranks are", RANKS_OF_TWO, 0, 0);
 
-    empty_image(3, 4000000000u - 599, 7);
+    empty_image(3, LAST_TICK - 599, 7);
     block(600, RANKS(1, 2, 3), ROW(4, 5, 6));
     both_calls("due beyond the clock's end", NOTHING, 8);
-    empty_image(3, 4000000000u - 600, 0);
+    empty_image(3, LAST_TICK - 600, 0);
     both_calls("no ticket", NOTHING, 9);
-    put4(image + 12, 0xffffffffu);
+    put4(image + NEXT_AT, LAST_TICKET);
     both_calls("the last ticket", NOTHING, 0);
-    CHECK(word(reply + 4) == 0xffffffffu && word(image + 12) == 0);
+    CHECK(get4(reply + REPLY_TICKET_AT) == LAST_TICKET && get4(image + NEXT_AT) == 0);
     both_calls("no ticket any more", NOTHING, 9);
 
     /* "X with due-in 6, then Y with due-in 100: 12, margin -1." */
@@ -237,16 +240,16 @@ static void declines_at_the_counter(void)
     both_calls("X", NOTHING, 0);
     block(100, RANKS(5, 5), ROW(1, 2));
     both_calls("Y", NOTHING, 12);
-    CHECK(word(reply + 12) == 0xffffffffu);
+    CHECK(get4(reply + REPLY_MARGIN_AT) == 0xffffffffu);
 }
 
 static void last_tick(void)
 {
-    empty_image(8, 4000000000u - 2, 7);
+    empty_image(8, LAST_TICK - 2, 7);
     order_length = 0;
     one_call(ADVANCE, "two ticks before the last", NOTHING, 0, 0);
     one_call(ADVANCE, "one tick before the last", NOTHING, 0, 0);
-    CHECK(word(reply + 8) == 4000000000u);
+    CHECK(get4(reply + REPLY_TICK_AT) == LAST_TICK);
     one_call(ADVANCE, "the last tick", NOTHING, 0, 13);
 }
 
@@ -259,47 +262,47 @@ static uint32_t draw(uint32_t below)
     return (drawn >> 8) % below;
 }
 
-/* A cabinet of n stations from open on: it is filled to 32 live orders, gets further orders for a while, and runs until all are out. */
+/* A cabinet of n stations from open on: it is filled, gets further orders for a while, and runs until all are out. */
 static void a_day(uint32_t n)
 {
     static uint32_t due[400]; /* by ticket; 0 when it is out */
     uint32_t accepted = 0, ticks = 0;
-    image_length = 2128;
-    reply_length = 16;
+    image_length = IMAGE_SIZE;
+    reply_length = REPLY_SIZE;
     one_call(OPEN, "a day", IMAGE, n, 0);
-    while (ticks < 150 || image[6] > 0) {
-        uint32_t tries = ticks == 0 ? 34 : ticks < 150 ? draw(3) : 0;
+    while (ticks < 150 || image[LIVE_COUNT_AT] > 0) {
+        uint32_t tries = ticks == 0 ? MAX_LIVE + 2 : ticks < 150 ? draw(3) : 0;
         for (; tries > 0; tries--) {
-            uint16_t costs[8] = {0};
-            uint8_t ranks[8] = {0};
+            uint16_t costs[MAX_STATIONS] = {0};
+            uint8_t ranks[MAX_STATIONS] = {0};
             for (uint32_t j = 0; j < n; j++) {
                 costs[j] = (uint16_t)(1 + draw(4));
                 ranks[j] = (uint8_t)(draw(3) * 100);
             }
             block(20000 + draw(40000), ranks, costs);
-            uint32_t live = image[6], clock = word(image + 8);
-            both_calls("a day", NOTHING, live < 32 ? 0 : 10);
-            if (live < 32) {
-                CHECK(word(reply + 4) == ++accepted && accepted < 400);
-                due[accepted] = clock + word(order);
+            uint32_t live = image[LIVE_COUNT_AT], clock = get4(image + CLOCK_AT);
+            both_calls("a day", NOTHING, live < MAX_LIVE ? 0 : 10);
+            if (live < MAX_LIVE) {
+                CHECK(get4(reply + REPLY_TICKET_AT) == ++accepted && accepted < 400);
+                due[accepted] = clock + get4(order + BLOCK_DUE_IN_AT);
                 live_at[live]++;
             }
         }
-        uint8_t before[32];
-        uint32_t live = image[6];
+        uint8_t before[MAX_LIVE];
+        uint32_t live = image[LIVE_COUNT_AT];
         for (uint32_t k = 0; k < live; k++)
-            before[k] = image[80 + 64 * k + 16];
+            before[k] = image[RECORD(k) + STATION_AT];
         order_length = 0;
         one_call(ADVANCE, "a day", NOTHING, 0, 0);
         ticks++;
-        uint32_t out = word(reply + 4);
-        CHECK(word(reply + 8) == ticks && out <= accepted && (out == 0 || (due[out] != 0 && ticks <= due[out])));
+        uint32_t out = get4(reply + REPLY_TICKET_AT);
+        CHECK(get4(reply + REPLY_TICK_AT) == ticks && out <= accepted && (out == 0 || (due[out] != 0 && ticks <= due[out])));
         if (out != 0) {
             due[out] = 0;
             outs++;
         } else {
             for (uint32_t k = 0; k < live; k++)
-                moves += before[k] != image[80 + 64 * k + 16];
+                moves += before[k] != image[RECORD(k) + STATION_AT];
         }
     }
     for (uint32_t ticket = 1; ticket <= accepted; ticket++)
@@ -315,7 +318,7 @@ int main(int argc, char **argv)
     damaged_images(on_damaged);
     declines_at_the_counter();
     last_tick();
-    for (uint32_t n = 1; n <= 8; n++)
+    for (uint32_t n = 1; n <= MAX_STATIONS; n++)
         a_day(n);
 
     strcpy(what, "all calls");
@@ -330,7 +333,7 @@ int main(int argc, char **argv)
         }
         printf("\n");
     }
-    for (int live = 0; live < 32; live++)
+    for (int live = 0; live < MAX_LIVE; live++)
         CHECK(live_at[live] > 0);
     CHECK(outs > 500 && moves > 500);
     printf("%lu orders out, %lu that go on\n", outs, moves);

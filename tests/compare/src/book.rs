@@ -4,7 +4,8 @@
 
 use crate::counts::Kind;
 use crate::desk::{Clerk, Lender};
-use crate::{IMAGE, LEVEL};
+use crate::layout::{IMAGE_SIZE, MAX_STATIONS};
+use crate::level;
 use second_simulator::calls::Call;
 use second_simulator::gen::{Maker, Profile, Step};
 use second_simulator::list::Runner;
@@ -23,11 +24,11 @@ pub fn list(clerk: &Clerk, kind: Kind, name: &str, seed: u64, calls: usize) {
         profile.rank = rng.pick(&[1, 5, 255]);
         profile.room = rng.range(1, 2);
     }
-    let n = rng.range(1, 8) as u32;
-    let mut maker = Maker { level: LEVEL, rng, profile };
+    let n = rng.range(1, MAX_STATIONS as u64) as u32;
+    let mut maker = Maker { level: level(), rng, profile };
     let mut machine = clerk.clone();
-    clerk.0.borrow_mut().begin(kind, name, &[NOISE; IMAGE]);
-    let mut run = Runner::new(LEVEL, n, &mut machine).unwrap_or_else(|e| clerk.0.borrow().fail(&e));
+    clerk.0.borrow_mut().begin(kind, name, &[NOISE; IMAGE_SIZE]);
+    let mut run = Runner::new(level(), n, &mut machine).unwrap_or_else(|e| clerk.0.borrow().fail(&e));
     for k in 0..calls {
         let lent = maker.next(&run.image);
         if let Err(e) = run.call(&lent) { clerk.0.borrow().fail(&format!("the run book: {e}")); }
@@ -47,7 +48,7 @@ pub fn replay(clerk: &Clerk, name: &str, steps: &[Step]) -> Option<Result<(), St
     let n = opens(&calls.first()?.call)?;
     if calls[1..].iter().any(|lent| opens(&lent.call).is_some()) { return None; }
     let mut machine = clerk.clone();
-    clerk.0.borrow_mut().begin(Kind::Book, name, &[NOISE; IMAGE]);
-    let mut run = match Runner::new(LEVEL, n, &mut machine) { Ok(run) => run, Err(e) => return Some(Err(e)) };
+    clerk.0.borrow_mut().begin(Kind::Book, name, &[NOISE; IMAGE_SIZE]);
+    let mut run = match Runner::new(level(), n, &mut machine) { Ok(run) => run, Err(e) => return Some(Err(e)) };
     Some(calls[1..].iter().try_for_each(|lent| run.call(lent).and_then(|_| run.check_next())))
 }

@@ -3,7 +3,7 @@
 use crate::counts::{Counts, Kind};
 use crate::desk::{touched, Clerk, Desk, Library};
 use crate::plan::Tables;
-use crate::{book, damage, lent, limits, lists, LEVEL};
+use crate::{book, damage, layout, lent, level, limits, lists};
 use second_simulator::bytes::unhex;
 use second_simulator::calls::{Call, Machine};
 use second_simulator::gen::{self, Step};
@@ -215,7 +215,7 @@ fn replay(library: Library, a: &Arguments) -> ExitCode {
                 }
             }
         }
-        if gen::list_text(LEVEL, &steps) != text {
+        if gen::list_text(level(), &steps) != text {
             println!("{name}: the simulator gives other numbers, replies or images than are written there");
             return ExitCode::FAILURE;
         }
@@ -233,6 +233,7 @@ fn replay(library: Library, a: &Arguments) -> ExitCode {
 }
 
 pub fn run(library: Library) -> ExitCode {
+    layout::check();
     lent::on_touch(touched);
     match arguments() {
         Some(a) if a.replay && !a.files.is_empty() => replay(library, &a),

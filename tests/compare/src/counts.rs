@@ -1,9 +1,9 @@
 //! What a comparison has seen, so that one that shows too little can be told.
 
-use crate::IMAGE;
+use crate::layout::*;
 use second_simulator::bytes::{get16, get32};
 use second_simulator::calls::Call;
-use second_simulator::image::{flaws, mark_and_version, Clause, CLOCK_END, MAX_LIVE};
+use second_simulator::image::{flaws, mark_and_version, Clause};
 use second_simulator::list;
 use std::collections::BTreeMap;
 
@@ -20,7 +20,7 @@ impl Kind {
 /// Numbers 0 to 14.
 const NUMBERS: usize = 15;
 
-/// Clauses of soundness at level 0, in the simulator's words.
+/// Clauses of soundness, in the simulator's words.
 pub const CLAUSES: [(Clause, &str); 20] = [
     (Clause::StationCount, "StationCount"), (Clause::LiveCount, "LiveCount"), (Clause::Clock, "Clock"), (Clause::ZeroBytes, "ZeroBytes"),
     (Clause::UnusedRecords, "UnusedRecords"), (Clause::TicketLeast, "TicketLeast"), (Clause::TicketsRising, "TicketsRising"),
@@ -30,7 +30,7 @@ pub const CLAUSES: [(Clause, &str); 20] = [
     (Clause::InService, "InService"),
 ];
 
-/// Calls by live orders, 0 to 32.
+/// Calls by live orders.
 #[derive(Clone, Copy)]
 pub struct Live([u64; MAX_LIVE + 1]);
 
@@ -45,9 +45,9 @@ pub struct Counts {
     /// calls that got as far as question 5, by call and live orders
     pub live: [Live; 4],
     /// starts, by N and station
-    pub starts: [[u64; 8]; 8],
+    pub starts: [[u64; MAX_STATIONS]; MAX_STATIONS],
     /// orders out, by N
-    pub out: [u64; 8],
+    pub out: [u64; MAX_STATIONS],
     /// lists and their calls, by kind
     pub lists: [u64; KINDS.len()],
     pub calls: [u64; KINDS.len()],
@@ -82,8 +82,8 @@ impl Counts {
 
     /// An image that a list begins with.
     pub fn image(&mut self, image: &[u8]) {
-        let kind = if image.len() != IMAGE { 1 } else if !mark_and_version(crate::LEVEL, image) { 2 } else {
-            let broken = flaws(crate::LEVEL, image);
+        let kind = if image.len() != IMAGE_SIZE { 1 } else if !mark_and_version(crate::level(), image) { 2 } else {
+            let broken = flaws(crate::level(), image);
             if let [clause] = broken[..] { self.alone[CLAUSES.iter().position(|(c, _)| *c == clause).unwrap()] += 1; }
             if broken.is_empty() { 0 } else { 3 }
         };
@@ -92,7 +92,7 @@ impl Counts {
 
     /// A damaged image and the sound one that it was.
     pub fn hurt(&mut self, sound: &[u8], damaged: &[u8]) {
-        self.bytes.resize(IMAGE, 0);
+        self.bytes.resize(IMAGE_SIZE, 0);
         for (count, (a, b)) in self.bytes.iter_mut().zip(sound.iter().zip(damaged)) { *count += u64::from(a != b); }
     }
 
@@ -112,7 +112,7 @@ impl Counts {
         };
         if let Some(wrong) = wrong { *self.lengths.entry(wrong).or_default() += 1; }
         if c == 0 || (1..=4).contains(&number) { return; }
-        self.live[c].0[usize::from(before[6])] += 1;
+        self.live[c].0[usize::from(before[LIVE_COUNT_AT])] += 1;
         match call {
             Call::Quote { order } | Call::Offer { order } => self.order(order, c == 2, before, number, reply),
             _ => self.advance(before, number, reply),
@@ -121,30 +121,30 @@ impl Counts {
 
     fn order(&mut self, order: &[u8], offer: bool, before: &[u8], number: u32, reply: &[u8]) {
         if number == 5 { return; }
-        let (n, clock, next) = (usize::from(before[5]), get32(before, 8), get32(before, 12));
-        let due_in = get32(order, 0);
-        let due = u64::from(clock) + if due_in == 0 { 18_000 } else { u64::from(due_in) };
-        let costs = || (0..n).map(|j| get16(order, 12 + 2 * j));
-        let margin = get32(reply, 12) as i32;
+        let (n, clock, next) = (usize::from(before[STATION_COUNT_AT]), get32(before, CLOCK_AT), get32(before, NEXT_AT));
+        let due_in = get32(order, BLOCK_DUE_IN_AT);
+        let due = u64::from(clock) + u64::from(if due_in == 0 { DEFAULT_DUE_IN } else { due_in });
+        let costs = || (0..n).map(|j| get16(order, BLOCK_COSTS_AT + 2 * j));
+        let margin = get32(reply, REPLY_MARGIN_AT) as i32;
         match number {
             0 => {
                 if margin == 0 { self.edge("done, margin 0"); }
                 if margin == 1 { self.edge("done, margin 1"); }
-                if due == u64::from(CLOCK_END) { self.edge("done, due at the last tick"); }
-                if due_in == 60_000 { self.edge("done, due-in 60,000"); }
+                if due == u64::from(LAST_TICK) { self.edge("done, due at the last tick"); }
+                if due_in == MAX_DUE_IN { self.edge("done, due-in 60,000"); }
                 if due_in == 0 { self.edge("done, due-in 0"); }
-                if costs().any(|c| c == 6_000) { self.edge("done, cost 6,000"); }
+                if costs().any(|c| c == MAX_COST) { self.edge("done, cost 6,000"); }
                 if costs().all(|c| c == 1) { self.edge("done, costs 1"); }
-                if offer && next == u32::MAX { self.edge("done, last ticket"); }
-                if offer && before[6] == 31 { self.edge("done, 32 live after it"); }
+                if offer && next == LAST_TICKET { self.edge("done, last ticket"); }
+                if offer && usize::from(before[LIVE_COUNT_AT]) == MAX_LIVE - 1 { self.edge("done, 32 live after it"); }
             }
             6 if costs().any(|c| c == 0) => self.edge("6, cost 0"),
-            6 if costs().any(|c| c == 6_001) => self.edge("6, cost 6,001"),
-            6 if costs().all(|c| c <= 6_000) && (n..8).any(|j| order[4 + j] != 0) => self.edge("6, rank beyond N"),
-            6 if costs().all(|c| c <= 6_000) => self.edge("6, cost beyond N"),
-            7 if due_in == 60_001 => self.edge("7, due-in 60,001"),
-            8 if due == u64::from(CLOCK_END) + 1 => self.edge("8, due one tick too late"),
-            9 if before[6] == 32 => self.edge("9, and 32 live"),
+            6 if costs().any(|c| c == MAX_COST + 1) => self.edge("6, cost 6,001"),
+            6 if costs().all(|c| c <= MAX_COST) && (n..MAX_STATIONS).any(|j| order[BLOCK_RANKS_AT + j] != 0) => self.edge("6, rank beyond N"),
+            6 if costs().all(|c| c <= MAX_COST) => self.edge("6, cost beyond N"),
+            7 if due_in == MAX_DUE_IN + 1 => self.edge("7, due-in 60,001"),
+            8 if due == u64::from(LAST_TICK) + 1 => self.edge("8, due one tick too late"),
+            9 if usize::from(before[LIVE_COUNT_AT]) == MAX_LIVE => self.edge("9, and 32 live"),
             11 if margin == -1 => self.edge("11, margin -1"),
             12 if margin == -1 => self.edge("12, margin -1"),
             _ => {}
@@ -152,25 +152,25 @@ impl Counts {
     }
 
     fn advance(&mut self, before: &[u8], number: u32, reply: &[u8]) {
-        let (n, live, clock) = (usize::from(before[5]), usize::from(before[6]), get32(before, 8));
+        let (n, live, clock) = (usize::from(before[STATION_COUNT_AT]), usize::from(before[LIVE_COUNT_AT]), get32(before, CLOCK_AT));
         if number != 0 {
             if live > 0 { self.edge("13, orders live"); }
             return;
         }
-        if clock == CLOCK_END - 1 { self.edge("done, last tick"); }
-        if get32(before, 12) == 0 { self.edge("done, no ticket left"); }
-        if get32(reply, 4) != 0 { self.out[n - 1] += 1; }
+        if clock == LAST_TICK - 1 { self.edge("done, last tick"); }
+        if get32(before, NEXT_AT) == 0 { self.edge("done, no ticket left"); }
+        if get32(reply, REPLY_TICKET_AT) != 0 { self.out[n - 1] += 1; }
         let mut leaving = 0;
         for j in 0..n {
             // Who waits at the station, best first: how many have the smallest rank, and whether the smallest ticket has it.
-            let serves = get32(before, 16 + 8 * j);
+            let serves = get32(before, service(j) + SERVED_AT);
             let (mut best, mut tied, mut first, mut cost) = (u16::from(u8::MAX) + 1, 0, 0, 0);
             for k in 0..live {
-                let r = &before[80 + 64 * k..144 + 64 * k];
-                if usize::from(r[16]) != j + 1 || get32(r, 0) == serves { continue; }
-                let rank = u16::from(r[20 + j]);
+                let r = &before[record(k)..record(k + 1)];
+                if usize::from(r[STATION_AT]) != j + 1 || get32(r, TICKET_AT) == serves { continue; }
+                let rank = u16::from(r[RANKS_AT + j]);
                 if first == 0 { first = rank + 1; }
-                if rank < best { (best, tied, cost) = (rank, 1, get16(r, 28 + 2 * j)); } else if rank == best { tied += 1; }
+                if rank < best { (best, tied, cost) = (rank, 1, get16(r, COSTS_AT + 2 * j)); } else if rank == best { tied += 1; }
             }
             let waiting = tied > 0;
             if serves == 0 && waiting {
@@ -180,15 +180,16 @@ impl Counts {
                 if cost == 1 { leaving += 1; }
             }
             if serves != 0 {
-                if get16(before, 20 + 8 * j) == 1 { leaving += 1; }
-                if waiting && (0..live).any(|k| get32(before, 80 + 64 * k) == serves && u16::from(before[80 + 64 * k + 20 + j]) > best) {
+                if get16(before, service(j) + LEFT_AT) == 1 { leaving += 1; }
+                let worse = |k: usize| get32(before, record(k) + TICKET_AT) == serves && u16::from(before[record(k) + RANKS_AT + j]) > best;
+                if waiting && (0..live).any(worse) {
                     self.edge("in service, a better rank waits");
                 }
             }
         }
         if leaving > 1 { self.edge("two or more leave their stations"); }
-        if leaving == 8 { self.edge("all of eight leave their stations"); }
-        if live == 32 && get32(reply, 4) != 0 { self.edge("out, 32 live before it"); }
+        if leaving == MAX_STATIONS { self.edge("all of eight leave their stations"); }
+        if live == MAX_LIVE && get32(reply, REPLY_TICKET_AT) != 0 { self.edge("out, 32 live before it"); }
     }
 
     pub fn add(&mut self, o: &Counts) {
@@ -197,7 +198,7 @@ impl Counts {
             sum(&mut self.numbers[c], &o.numbers[c]);
             sum(&mut self.live[c].0, &o.live[c].0);
         }
-        for n in 0..8 { sum(&mut self.starts[n], &o.starts[n]); }
+        for n in 0..MAX_STATIONS { sum(&mut self.starts[n], &o.starts[n]); }
         sum(&mut self.out, &o.out);
         sum(&mut self.lists, &o.lists);
         sum(&mut self.calls, &o.calls);
@@ -222,7 +223,7 @@ impl Counts {
         for (c, call) in CALLS.iter().enumerate().skip(1) {
             for (live, count) in self.live[c].0.iter().enumerate() { say(format!("{call} with {live} live"), *count); }
         }
-        for n in 0..8 {
+        for n in 0..MAX_STATIONS {
             for j in 0..=n { say(format!("start at station {} of {}", j + 1, n + 1), self.starts[n][j]); }
             say(format!("out with {} stations", n + 1), self.out[n]);
         }
@@ -267,7 +268,7 @@ impl Counts {
             format!("{} of another mark or version", self.images[2]), format!("each byte damaged in {} at least", self.least_hurt()),
         ]);
         line("one clause broken alone", (0..CLAUSES.len()).map(|k| format!("{} {}", CLAUSES[k].1, self.alone[k])).collect());
-        line("orders out by N", (0..8).map(|n| format!("{}: {}", n + 1, self.out[n])).collect());
+        line("orders out by N", (0..MAX_STATIONS).map(|n| format!("{}: {}", n + 1, self.out[n])).collect());
         line("wrong lengths", self.lengths.iter().map(|((buffer, length), count)| format!("{buffer} {length}: {count}")).collect());
         let edges: Vec<String> = self.edges.iter().map(|(name, count)| format!("{name} {count}")).collect();
         line("at an edge", vec![edges.join("; ")]);

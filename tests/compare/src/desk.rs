@@ -2,7 +2,7 @@
 
 use crate::counts::{Counts, Kind};
 use crate::lent::{Room, PLACES};
-use crate::LEVEL;
+use crate::level;
 use second_simulator::bytes::hex;
 use second_simulator::calls::{Call, Machine, Simulator};
 use second_simulator::gen::{list_text, Step};
@@ -121,7 +121,7 @@ impl Desk {
             if !self.aside { self.counts.calls[self.kind as usize] += 1; }
             return given;
         }
-        let number = Simulator(LEVEL).call(call, image, reply);
+        let number = Simulator(level()).call(call, image, reply);
 
         if given != number || self.reply.bytes() != reply {
             self.fail(&format!("the library gives {given} and reply {}, the simulator {number} and {}", hex(self.reply.bytes()), hex(reply)));
@@ -163,7 +163,7 @@ impl Desk {
                 Call::Quote { .. } => (self.library.quote)(i, il, o, ol, r, rl),
                 Call::Offer { .. } => (self.library.offer)(i, il, o, ol, r, rl),
                 Call::Advance => (self.library.advance)(i, il, r, rl),
-                other => unreachable!("level 0 has no {other:?}"),
+                other => unreachable!("the library has no {other:?}"),
             }
         });
         if sealed {
@@ -185,7 +185,7 @@ impl Lender for Desk {
         let steps = |image: &[u8], calls: &[Lent]| {
             let mut all = vec![Step::Image(image.to_vec())];
             all.extend(calls.iter().cloned().map(Step::Call));
-            list_text(LEVEL, &all)
+            list_text(level(), &all)
         };
         let whole = steps(&self.first, &self.history);
         let short = last.map(|lent| steps(&self.before, &[lent]));

@@ -2,23 +2,25 @@
 //! reply, image and order block have to be the same to the last byte. Lists from a cabinet just opened are read by the simulator's run book as well (demand 3).
 //!
 //! `lent` has the buffers, `desk` makes one call on both and writes the list of a difference, `counts` says what was seen. `book`, `lists`, `limits` and `damage`
-//! make lists of calls, `plan` makes tables, and `command` is the command line.
+//! make lists of calls, `plan` makes tables, `layout` has the figures of document 01, and `command` is the command line.
 
 pub mod book;
 pub mod command;
 pub mod counts;
 pub mod damage;
 pub mod desk;
+pub mod layout;
 pub mod lent;
 pub mod limits;
 pub mod lists;
 pub mod plan;
 
 use second_simulator::level::Level;
+use std::sync::OnceLock;
 
-/// Document 01, with nothing of document 02.
-pub const LEVEL: Level = Level::BASE;
-
-pub const IMAGE: usize = 2128;
-pub const ORDER: usize = 28;
-pub const REPLY: usize = 16;
+/// How much of document 02 the simulator is asked for: the level of tests/level.
+pub fn level() -> Level {
+    static LEVEL: OnceLock<Level> = OnceLock::new();
+    let read = || include_str!("../../level").trim().parse().ok().and_then(Level::new).expect("tests/level has no level of the second simulator");
+    *LEVEL.get_or_init(read)
+}

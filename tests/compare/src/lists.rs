@@ -2,7 +2,8 @@
 
 use crate::counts::Kind;
 use crate::desk::{Desk, Sheet};
-use crate::{limits, IMAGE, LEVEL};
+use crate::layout::{BLOCK_COSTS_AT, BLOCK_SIZE, IMAGE_SIZE, OTHER_IMAGE_SIZE, RECORDS_AT, RECORD_SIZE, REPLY_SIZE, SERVICES_AT, SERVICE_SIZE};
+use crate::{level, limits};
 use second_simulator::calls::Call;
 use second_simulator::gen::{sound_state, Maker, Profile};
 use second_simulator::image::encode;
@@ -16,8 +17,8 @@ pub fn sound(desk: &mut Desk, name: &str, seed: u64) {
         let calls = rng.pick(&[10, 20, 50, 200]).min(left);
         left -= calls;
         let profile = Profile::random(&mut rng);
-        let image = encode(LEVEL, &sound_state(LEVEL, &mut rng));
-        let mut maker = Maker { level: LEVEL, rng: rng.clone(), profile };
+        let image = encode(level(), &sound_state(level(), &mut rng));
+        let mut maker = Maker { level: level(), rng: rng.clone(), profile };
         rng.next();
         let mut sheet = Sheet::new(desk, Kind::Sound, name, image);
         for _ in 0..calls {
@@ -34,18 +35,24 @@ pub fn lengths(desk: &mut Desk, name: &str, seed: u64) {
     let mut rng = Rng::new(seed);
     for _ in 0..70 {
         let aim = limits::aim(&mut rng);
-        let mut image = encode(LEVEL, &aim.state);
-        let length = rng.pick(&[0, 1, 2, 4, 5, 8, 15, 16, 79, 80, 2064, 2120, IMAGE - 1, IMAGE, IMAGE, IMAGE, IMAGE + 1, IMAGE + 64, 3152, 4000]);
+        let mut image = encode(level(), &aim.state);
+        let length = rng.pick(&[
+            0, 1, 2, 4, 5, 8, SERVICES_AT - 1, SERVICES_AT, RECORDS_AT - 1, RECORDS_AT, IMAGE_SIZE - RECORD_SIZE, IMAGE_SIZE - SERVICE_SIZE, IMAGE_SIZE - 1,
+            IMAGE_SIZE, IMAGE_SIZE, IMAGE_SIZE, IMAGE_SIZE + 1, IMAGE_SIZE + RECORD_SIZE, OTHER_IMAGE_SIZE, 4000,
+        ]);
         image.resize(length, 0);
         if rng.one_in(4) { image = rng.bytes(length); }
         let mut sheet = Sheet::new(desk, Kind::Lengths, name, image);
         for _ in 0..5 {
             let mut order = aim.order(&mut rng);
             if rng.one_in(2) {
-                let length = rng.pick(&[0, 1, 4, 12, 26, 27, 29, 30, 32, 56, 280, 1000]);
+                let length = rng.pick(&[
+                    0, 1, 4, BLOCK_COSTS_AT, BLOCK_SIZE - 2, BLOCK_SIZE - 1, BLOCK_SIZE + 1, BLOCK_SIZE + 2, 32, 2 * BLOCK_SIZE, 10 * BLOCK_SIZE, 1000,
+                ]);
                 order.resize(length, 0);
             }
-            let reply_length = rng.pick(&[0, 1, 4, 15, 16, 16, 16, 17, 32, 64]);
+            let right = REPLY_SIZE;
+            let reply_length = rng.pick(&[0, 1, 4, right - 1, right, right, right, right + 1, 2 * right, 4 * right]);
             let call = match rng.below(4) {
                 0 => Call::Open { stations: rng.pick(&[0, 1, 2, 3, 4, 5, 6, 7, 8, 9, 255, 256, 257, 264, 65_537, 0x8000_0001, u32::MAX]) },
                 1 => Call::Quote { order },

@@ -2,7 +2,7 @@
 
 use crate::desk::{waiting, Lender, Library, FOUND};
 use crate::lent::{Room, PLACES};
-use crate::LEVEL;
+use crate::level;
 use second_simulator::gen::plan_input;
 use second_simulator::plan::{self, Task};
 use second_simulator::rng::Rng;
@@ -59,7 +59,7 @@ fn limit_input(rng: &mut Rng) -> Vec<u8> {
     let style = rng.below(6);
     let mut table = tasks(rng, n, style);
     let mut figures = table.clone();
-    assert_eq!(plan::plan(LEVEL, n, &mut figures), 0);
+    assert_eq!(plan::plan(level(), n, &mut figures), 0);
     for (t, with) in table.iter_mut().zip(&figures) {
         // The response does not depend on the own deadline until it is reached.
         let near = match rng.below(6) { 0 => with.response, 1 => with.response + 1, 2 => with.response - 1, 3 => with.base, 4 => with.base + 1, _ => t.period };
@@ -113,8 +113,8 @@ impl Tables {
     pub fn one(&mut self, name: &str, seed: u64) -> &'static str {
         let mut rng = Rng::new(seed);
         self.name = name.to_string();
-        self.given = if rng.one_in(2) { plan_input(LEVEL, rng.next()) } else { limit_input(&mut rng) };
-        self.right = plan::program(LEVEL, &self.given);
+        self.given = if rng.one_in(2) { plan_input(level(), rng.next()) } else { limit_input(&mut rng) };
+        self.right = plan::program(level(), &self.given);
         let noise = rng.bytes(OUT);
         self.turn += 1;
         let guard = if seed >> 63 == 0 { 0xc3 } else { 0x3c };
