@@ -20,10 +20,10 @@ FILES = {
 }
 
 # What one of them need not have. The number comes first in a reply, so the definitions do not name its place. The length of an image of another version is for
-# the tests alone. The code may name the places of an order block where it reads one.
+# the tests alone.
 LACKS = {
     DEFINITIONS: {"REPLY_NUMBER_AT", "OTHER_IMAGE_SIZE"},
-    CODE: {"OTHER_IMAGE_SIZE", "BLOCK_SIZE", "BLOCK_DUE_IN_AT", "BLOCK_RANKS_AT", "BLOCK_COSTS_AT"},
+    CODE: {"OTHER_IMAGE_SIZE"},
 }
 
 # Where the bare figures are looked for, and what of it is left out: what others deliver, what is stored, and texts of the crates.
@@ -52,8 +52,9 @@ def of_definitions(text, file):
 
 
 def of_code(text, file):
+    """What is worked out of another constant states no figure."""
     constants = re.findall(r"^pub const (\w+): \w+ = (.*);$", text, re.M)
-    figures = {name: number(value, f"{file}, {name}") for name, value in constants if not value.startswith("b'")}
+    figures = {name: number(value, f"{file}, {name}") for name, value in constants if not value.startswith("b'") and not re.search("[A-Z]", value)}
     mark = "".join(value[2] for _, value in constants if value.startswith("b'")).encode()
     return {**figures, "MARK": mark} if mark else figures
 
