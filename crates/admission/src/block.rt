@@ -59,8 +59,8 @@ fn or_default(due_in: u32) -> u64
     }
 }
 
-// "0 stands for 18,000. Due tick = tick of acceptance + due-in." In 64 bits, since in 32 the sum can wrap. Neither the due-in
-// alone nor 0 taken as it is meets the promise.
+// "Due tick = tick of acceptance + due-in.", and 0 stands for the default. In 64 bits, since in 32 the sum can wrap. Neither
+// the due-in alone nor 0 taken as it is meets the promise.
 pub fn due_tick(accepted: u32, b: Block) -> u64
     ensures { λ r. ⌜ r ≡ dueOf accepted b ⌝ }
 {

@@ -21,7 +21,7 @@ use Rattle.model.specs.Questions.{Question, _else_, Answer, zeros}
 unfoldable pub blockOf : List ℕ → Block
 blockOf s = record { «due_in» = word s blockDueInAt; ranks = eightBytes s blockRanksAt; costs = eightHalves s blockCostsAt }
 
--- "0 stands for 18,000. Due tick = tick of acceptance + due-in."
+-- "Due tick = tick of acceptance + due-in." A due-in of 0 stands for the default.
 unfoldable pub dueOf : ℕ → Block → ℕ
 dueOf accepted b = accepted + cond (isZero (b .«due_in»)) defaultDueIn (b .«due_in»)
 

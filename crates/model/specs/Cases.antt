@@ -225,7 +225,7 @@ noStartSkipped =
     ∷ advances 2 7 ∷ advances 3 8 ∷ outs (5 ∷ 7 ∷ 8 ∷ []) ∷ inStep
     ∷ []
 
--- "0 stands for 18,000. Due tick = tick of acceptance + due-in."
+-- The default due-in, and "Due tick = tick of acceptance + due-in."
 unfoldable pub defaultInUse : List Row
 defaultInUse =
     opens 2 ∷ accepts (X 0 0) 1 5 (pos 17995) ∷ advances 0 1 ∷ accepts (Y 0 5) 2 8 (pos 17993) ∷ dues (18000 ∷ 18001 ∷ []) ∷ inStep ∷ []

@@ -40,7 +40,7 @@ maxima-length n [] each = omega arith
 maxima-length n (o ∷ l) each =
     omega (arith, length-larger (o .costs) (liveMaxima l), each o (List·Memᴰ·head refl), maxima-length n l (λ p m. each p (List·Memᴰ·tail m)))
 
--- "0 stands for 18,000."
+-- Both a due-in that is given and the default are in range.
 pub due-bounds : (clock : ℕ) (b : Block) → b .«due_in» ≤ maxDueIn → (clock + 1 ≤ dueOf clock b) × (dueOf clock b ≤ clock + maxDueIn)
 unfolding dueOf
 due-bounds clock b h = elim (eqb-cases (b .«due_in») 0) [ inl t ↦ rw (t .0) (omega arith) | inr t ↦ rw (t .0) (omega (arith, t .1)) ]
