@@ -21,6 +21,7 @@ static inline void put_row(uint8_t *at, const uint16_t *row)
 
 static inline void put_block(uint8_t *at, uint32_t due_in, const uint8_t *ranks, const uint16_t *costs)
 {
+    memset(at, 0, BLOCK_SIZE);
     put4(at + BLOCK_DUE_IN_AT, due_in);
     memcpy(at + BLOCK_RANKS_AT, ranks, MAX_STATIONS);
     put_row(at + BLOCK_COSTS_AT, costs);
