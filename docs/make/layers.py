@@ -114,9 +114,9 @@ LIST_HEAD = """# The crates, in the order of reasoning
 
 Each uses only crates above it. [README.md](../README.md#layers) says what each is for, and
 [docs/layers.svg](../docs/layers.svg) shows what uses what. `D` stands for definitions, `T` for theorems and laws, `C`
-for code with its contracts. Beside a crate stand its modules, and for definitions and theorems the files of `specs/`.
+for code with its contracts. The `src/lib.rt` of a crate says what each of its modules is for.
 
-| | crate | what it is | in it |
+| | crate | what it is | modules |
 |---|---|---|---|"""
 
 WALK_HEAD = """
@@ -249,17 +249,13 @@ def walk(used):
     return len(lines)
 
 
-def contents(crate, kind):
-    """The modules of a crate with their comments, or the files of its statements."""
-    found = []
-    for name, comment in re.findall(r"^pub mod (\w+);(.*)", read(f"crates/{crate}/src/lib.rt"), re.M):
-        said = re.match(rf" // (?:{name}\.rt: )?(.+)", comment)
-        if not said:
+def modules(crate):
+    """The modules of a crate. What each is for stands beside it in the index, src/lib.rt."""
+    found = re.findall(r"^pub mod (\w+);(.*)", read(f"crates/{crate}/src/lib.rt"), re.M)
+    for name, comment in found:
+        if not re.match(r" // .+", comment):
             fail(f"the module {name} of {crate} has no comment in crates/{crate}/src/lib.rt")
-        found.append(f"`{name}`: {said.group(1)}")
-    if kind in ("definition", "theorem"):
-        found.append("`specs/`: " + ", ".join(re.findall(r"^pub mod (\w+)", read(f"crates/{crate}/specs/Lib.antt"), re.M)))
-    return "<br>".join(found)
+    return ", ".join(f"`{name}`" for name, _ in found)
 
 
 def crate_list(listed):
@@ -267,7 +263,7 @@ def crate_list(listed):
     print(LIST_HEAD)
     for crate in listed:
         kind, words = CRATES[crate]
-        print(f"| {kind[0].upper() if kind != 'test' else 'C'} | [{crate}]({crate}) | {words} | {contents(crate, kind)} |")
+        print(f"| {kind[0].upper() if kind != 'test' else 'C'} | [{crate}]({crate}) | {words} | {modules(crate)} |")
     print(WALK_HEAD)
     for line in WALK.strip().split("\n"):
         print("    " + line)

@@ -295,17 +295,17 @@ def batches(mutants):
 
 
 def read_same():
-    """Entries of tests/mutants/same: a line with the function, the lines before and after, and why."""
-    found, entry = {}, []
+    """The changes of tests/mutants/same, each with the reason that stands above it."""
+    found, why, entry = {}, "", []
     for line in [*(HERE / "same").read_text(encoding="utf-8").split("\n"), ""]:
-        if line.startswith("#"):
-            continue
-        if line.strip():
+        if line.startswith("why: "):
+            why = line[5:]
+        elif line.strip() and not line.startswith("#"):
             entry.append(line.strip())
         elif entry:
-            if len(entry) < 4 or not entry[-1].startswith("why: "):
-                sys.exit(f"tests/mutants/same: an entry is a function, lines before and after, and a reason: {entry}")
-            found[tuple(entry[:-1])] = entry[-1][5:]
+            if len(entry) != 3 or not why:
+                sys.exit(f"tests/mutants/same: under a reason stand a function and its line before and after: {entry}")
+            found[tuple(entry)] = why
             entry = []
     return found
 
