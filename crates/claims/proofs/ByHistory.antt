@@ -24,7 +24,7 @@ use Rattle.model.specs.Admission.{blockOf, dueOf, arrival, joinedBy, joinedLive
 use Rattle.model.specs.Calls.{Result, result, replyQuestion, lengthQuestion, openNumber, openCall, offerNumber, offerCall, quoteCall, advanceNumber, advanceCall, Call, opening, quoting, offering, advancing, perform}
 use Rattle.model.specs.History.{Entry, History, liveOrders, entryDue, entryBound, entering, acceptIn}
 use Rattle.model.specs.StateOf.{recordOf, stateOf}
-use Rattle.model.specs.Demand3.{Lent, Run, started, outcome, afterAll}
+use Rattle.model.specs.Runs.{Lent, Run, started, outcome, afterAll}
 use Rattle.schedule.specs.Valid.{_∈_}
 use Rattle.schedule.specs.Accept.{acceptNext}
 use Rattle.schedule.proofs.Accept.{Origin, old, new, origin, old-in, new-in}
@@ -41,7 +41,8 @@ use Rattle.call_laws.proofs.offers.Exact.{margin-near, exact}
 use Rattle.call_laws.proofs.advances.Exact.{advance-numbers}
 use Rattle.claims.specs.ByHistory.{tried, arriving, OnTime, Late, marginOf, Considered, Smallest, Judged, InStep, ByHistory}
 use Rattle.claims.proofs.Invariant.{Invariant, whole, usable, says, offer-asks, advance-asks, invariant-started, invariant-all}
-use Rattle.claims.proofs.Demand3.{due-last, ahead, reply-tick}
+use Rattle.claims.proofs.Replies.{reply-tick}
+use Rattle.claims.proofs.Demand3.{due-last, ahead}
 
 -- ---- numbers that are never given
 -- A question that passes, or whose number is another.

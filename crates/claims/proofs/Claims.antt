@@ -1,27 +1,43 @@
 -- All claims, each from where it is proved.
 use Rattle.plan_model.proofs.Meaning.{meaning}
-use Rattle.plan_model.proofs.Cases.{chapter-six-holds}
+use Rattle.plan_model.proofs.Cases.{chapter-six-holds, largest-response-holds}
 use Rattle.plan_model.proofs.Leaves.{leaves, not-read}
+use Rattle.image_laws.proofs.Fresh.{fresh-sound}
 use Rattle.call_laws.proofs.offers.Exact.{exact}
-use Rattle.call_laws.proofs.offers.Kept.{offer-keeps-sound}
+use Rattle.call_laws.proofs.offers.Kept.{offer-keeps-sound, quote-gives-offer}
+use Rattle.call_laws.proofs.advances.Exact.{advance-numbers}
 use Rattle.call_laws.proofs.advances.Kept.{advance-keeps-sound}
+use Rattle.claims.specs.Images.{TicksAsAsked, Timely, ServedInFull}
 use Rattle.claims.specs.Claims.{Claims}
 use Rattle.claims.proofs.Demand3.{demand-3}
 use Rattle.claims.proofs.ByHistory.{by-history}
 use Rattle.claims.proofs.Progress.{progress}
+use Rattle.claims.proofs.Images.{ticks-of, timely-of, served-of, after-every-list, ticks, timely, served}
+use Rattle.claims.proofs.Declines.{declines}
 use Rattle.claims.proofs.WorkedCases.{worked-cases-hold}
 
 pub claims : Claims
 claims =
     record {
       due-times = demand-3;
+      progress = progress;
       exact = exact;
       by-history = by-history;
+      quote-gives-offer = quote-gives-offer;
+      ticks = ticks;
+      ticks-over-runs = after-every-list TicksAsAsked ticks-of;
+      timely = timely;
+      timely-over-runs = after-every-list Timely timely-of;
+      served = served;
+      served-over-runs = after-every-list ServedInFull served-of;
+      advance-numbers = advance-numbers;
+      declines = declines;
+      opens-fresh = fresh-sound;
       offers-keep-sound = offer-keeps-sound;
       advances-keep-sound = advance-keeps-sound;
-      progress = progress;
       plan-means = meaning;
       chapter-six = chapter-six-holds;
+      largest-response = largest-response-holds;
       plan-leaves = leaves;
       plan-reads-to-n = not-read;
       worked-cases = worked-cases-hold;

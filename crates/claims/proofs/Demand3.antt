@@ -1,5 +1,5 @@
 -- Demand 3: the invariant gives what is said of each accepted order and of each reply, call by call.
-use mathlib.Core.Path.{_≡_, refl, sym, ap, _∙_}
+use mathlib.Core.Path.{_≡_, refl, sym, ap, subst, _∙_}
 use mathlib.Core.List.{List, [], _∷_}
 use mathlib.Core.Option.{none}
 use Prim.Native.Nat.{ℕ, zero, suc, _+_, _≤_, _<_}
@@ -17,15 +17,16 @@ use Rattle.model.specs.Admission.{blockOf, offerAnswer}
 use Rattle.model.specs.Calls.{result, offerNumber, offerCall, advanceNumber, advanceAnswer, advanceCall, Call, opening, quoting, offering, advancing, perform}
 use Rattle.model.specs.History.{Entry, History, entryDue, entryBound, acceptIn, advanceIn, feed, outAt}
 use Rattle.model.specs.StateOf.{recordOf, stateOf}
-use Rattle.model.specs.Demand3.{Lent, Run, started, outcome, afterCall, afterAll, AllAllowed, InTime, Agrees, AllAgree, Demand3}
+use Rattle.model.specs.Runs.{Lent, Run, started, outcome, afterCall, afterAll, AllAllowed}
 use Rattle.schedule.specs.Valid.{_∈_}
-use Rattle.schedule.proofs.Out.{ticket-out-as-asked}
 use Rattle.delay.proofs.Book.{length-accept}
 use Rattle.delay.proofs.DueTimes.{live-record, none-live, kept-live}
 use Rattle.image_laws.specs.InRange.{wordLimit}
-use Rattle.image_laws.proofs.Numbers.{word-of-four}
+use Rattle.image_laws.specs.SoundFacts.{SoundInRange}
 use Rattle.call_laws.proofs.advances.Exact.{advance-numbers}
+use Rattle.claims.specs.Demand3.{InTime, Agrees, AllAgree, Demand3}
 use Rattle.claims.proofs.Out.{advanced-clock, out-in-history}
+use Rattle.claims.proofs.Replies.{reply-ticket, advance-gives}
 use Rattle.claims.proofs.Invariant.{Invariant, usable, says, few, open-done, invariant-started, invariant-call, invariant-all}
 
 -- ---- each accepted order
@@ -50,15 +51,6 @@ module _ (run : Run) (kept : Invariant run) where
       }
 
 -- ---- each reply
--- The second and the third number of a reply.
-pub reply-ticket : (number : ℕ) (a : Answer) → a .ticket < wordLimit → word (replyBytes number a) replyTicketAt ≡ a .ticket
-unfolding replyBytes
-reply-ticket number a h = word-of-four (a .ticket) h
-
-pub reply-tick : (number : ℕ) (a : Answer) → a .tick < wordLimit → word (replyBytes number a) replyTickAt ≡ a .tick
-unfolding replyBytes
-reply-tick number a h = word-of-four (a .tick) h
-
 module _ (run : Run) (kept : Invariant run) where
   abbrev h : History
   h = run .history
@@ -74,22 +66,12 @@ module _ (run : Run) (kept : Invariant run) where
   unfolding stateOf
   offer-agrees block reply done = offer-reply block reply done ∙ ap (λ (s : State). s .next) (says run kept) ∙ sym (length-accept (blockOf block) h)
 
-  -- The ticket out is 0 or that of a live order.
-  out-fits : advanceOut (stateOf h) < wordLimit
-  out-fits = go (advanceOut (stateOf h)) refl
-    where
-      go : (v : ℕ) → advanceOut (stateOf h) ≡ v → v < wordLimit
-      go zero e = omega arith
-      go (suc v) e =
-          let was = ticket-out-as-asked (stateOf h) (kept .history .promise .valid) .was-live (omega (arith, e)) in
-          omega (arith, e, was .named, kept .is-sound .in-range .orders (was .order) (was .live) .ticket)
-
   module _ (reply : List ℕ) (done : advanceNumber (run .image) reply ≡ 0) where
     advance-reply : (word (advanceCall (run .image) reply .reply) replyTicketAt ≡ advanceOut (stateOf h)) × (word (advanceCall (run .image) reply .reply) replyTickAt ≡ stateOf h .clock + 1)
-    unfolding advanceCall result advanceAnswer
     advance-reply =
-        let a : Answer = record { ticket = advanceOut (stateOf h); tick = stateOf h .clock + 1; margin = pos 0 } in
-        rw (done, says run kept) (reply-ticket 0 a out-fits, reply-tick 0 a (omega (arith, kept .is-sound .facts .clock)))
+        let is = says run kept in
+        let g = advance-gives (run .image) reply (subst SoundInRange (sym is) (kept .is-sound)) done in
+        (g .0 ∙ ap advanceOut is, g .1 ∙ ap (λ (s : State). s .clock + 1) is)
 
     advance-agrees : (word (advanceCall (run .image) reply .reply) replyTicketAt ≡ outAt (advanceIn h .clock) (advanceIn h .orders)) × (word (advanceCall (run .image) reply .reply) replyTickAt ≡ advanceIn h .clock)
     unfolding stateOf

@@ -22,7 +22,7 @@ use Rattle.model.specs.Admission.{blockOf, arrival, joinedBy, accept, orderQues
 use Rattle.model.specs.Calls.{result, replyQuestion, lengthQuestion, imageQuestions, openNumber, openCall, offerNumber, offerCall, advanceNumber, advanceCall, Call, opening, quoting, offering, advancing, perform}
 use Rattle.model.specs.History.{History, begun, acceptIn, advanceIn, feed}
 use Rattle.model.specs.StateOf.{stateOf}
-use Rattle.model.specs.Demand3.{Lent, Run, started, outcome, afterCall, afterAll, Allowed, AllAllowed}
+use Rattle.model.specs.Runs.{Lent, Run, started, outcome, afterCall, afterAll, Allowed, AllAllowed}
 use Rattle.schedule.specs.Valid.{_∈_}
 use Rattle.delay.specs.Events.{MayAccept}
 use Rattle.delay.proofs.Book.{length-accept, same-clock}

@@ -9,7 +9,7 @@ use Rattle.model.specs.Limits.{lastTick}
 use Rattle.model.specs.Layout.{replySize}
 use Rattle.model.specs.Calls.{advancing, perform}
 use Rattle.model.specs.History.{Entry, History, advanceIn, entryDue}
-use Rattle.model.specs.Demand3.{Lent, Run, started, outcome, afterCall, afterAll}
+use Rattle.model.specs.Runs.{Lent, Run, started, outcome, afterCall, afterAll}
 use Rattle.schedule.specs.Valid.{_∈_}
 use Rattle.claims.specs.Progress.{advances, AllWhole, AllDone, Out, Progress}
 use Rattle.claims.proofs.Out.{advanced-clock, stays}

@@ -18,7 +18,7 @@ use Rattle.model.specs.Admission.{blockOf, dueOf}
 use Rattle.model.specs.Calls.{Result, quoteCall, offerCall, advanceCall}
 use Rattle.model.specs.History.{Entry, History, liveOrders, entryDue, entryBound, entering, acceptIn}
 use Rattle.model.specs.StateOf.{stateOf}
-use Rattle.model.specs.Demand3.{Lent, Run, started, outcome, afterAll, AllAllowed}
+use Rattle.model.specs.Runs.{Lent, Run, started, outcome, afterAll, AllAllowed}
 use Rattle.schedule.specs.Valid.{_∈_}
 use Rattle.image_laws.specs.Iff.{_⇔_}
 

@@ -1,36 +1,56 @@
 -- What a stranger may rely on, in one record. The contracts of the calls say that each does what `openCall`, `quoteCall`, `offerCall` or `advanceCall` says,
--- and those of plan that it does what `planNumber`, `afterPlan` and `planOutput` say; these are theorems about the same definitions.
+-- and those of plan that it does what `planNumber`, `afterPlan` and `planOutput` say; these are theorems about the same definitions. Each has a use in
+-- proofs/uses: a definite case from which everything that it says is taken, in figures.
 use mathlib.Core.Path.{_≡_}
 use mathlib.Core.Bool.{true}
 use mathlib.Core.List.{List}
 use Prim.Native.Nat.{ℕ}
-use Rattle.model.specs.Demand3.{Demand3}
 use Rattle.plan_model.specs.declared.Task.{Task}
 use Rattle.plan_model.specs.Meaning.{Meaning, Leaves, NotRead}
-use Rattle.plan_model.specs.Cases.{isPrinted, chapterSix}
+use Rattle.plan_model.specs.Cases.{isPrinted, chapterSix, largestResponse}
+use Rattle.image_laws.specs.Fresh.{FreshSound}
 use Rattle.call_laws.specs.OfferExact.{Exact}
-use Rattle.call_laws.specs.OfferKept.{OfferKeepsSound}
+use Rattle.call_laws.specs.OfferKept.{OfferKeepsSound, QuoteGivesOffer}
+use Rattle.call_laws.specs.AdvanceExact.{AdvanceNumbers}
 use Rattle.call_laws.specs.AdvanceKept.{AdvanceKeepsSound}
+use Rattle.claims.specs.Demand3.{Demand3}
 use Rattle.claims.specs.ByHistory.{ByHistory}
 use Rattle.claims.specs.Progress.{Progress}
+use Rattle.claims.specs.Images.{OfEveryImage, AfterEveryList, TicksAsAsked, Timely, ServedInFull}
+use Rattle.claims.specs.Declines.{Declines}
 use Rattle.claims.specs.WorkedCases.{WorkedCases}
 
 pub record Claims : Type 0 where
-  -- "Due times hold. One theorem over every list of calls from a fresh cabinet"
+  -- "Demand 3 is over runs of the model as the run book has them, with company taken from the history of calls and not from stored sums."
   pub due-times : Demand3
-  -- Demand 2, of offers: on any image, and over runs by the history alone.
-  pub exact : Exact
-  pub by-history : ByHistory
-  -- Demand 1, from any sound image and not only from those that runs reach: a done call leaves a sound one.
-  pub offers-keep-sound : OfferKeepsSound
-  pub advances-keep-sound : AdvanceKeepsSound
   -- Every live order comes out if advance is called.
   pub progress : Progress
-  -- Demand 2, "Plan gives the thesis's response figures": what response and verdict of every task of a done plan mean, and the thesis's own example.
+  -- Demand 2, "11 and 12 only when late": on any image, and over runs by the history alone.
+  pub exact : Exact
+  pub by-history : ByHistory
+  -- "Quote gives what offer would give, with ticket 0, and changes nothing in the image."
+  pub quote-gives-offer : QuoteGivesOffer
+  -- "demand 2's starts": the course of each tick, when an order may start first, and the way of each order, of every image of bytes and after every list of calls.
+  pub ticks : OfEveryImage TicksAsAsked
+  pub ticks-over-runs : AfterEveryList TicksAsAsked
+  pub timely : OfEveryImage Timely
+  pub timely-over-runs : AfterEveryList Timely
+  pub served : OfEveryImage ServedInFull
+  pub served-over-runs : AfterEveryList ServedInFull
+  -- "advance 1 to 4, then 13"
+  pub advance-numbers : AdvanceNumbers
+  -- Demand 1: what a decline leaves, by any of the calls.
+  pub declines : Declines
+  -- Demand 1, from any sound image and not only from those that runs reach: a done call leaves a sound one.
+  pub opens-fresh : FreshSound
+  pub offers-keep-sound : OfferKeepsSound
+  pub advances-keep-sound : AdvanceKeepsSound
+  -- Plan: what response and verdict of every task of a done plan mean, the thesis's own example, and a table with the largest response there is.
   pub plan-means : Meaning
   pub chapter-six : isPrinted chapterSix ≡ true
-  -- Demand 1, of plan: what it leaves of the list, and what it does not read.
+  pub largest-response : isPrinted largestResponse ≡ true
+  -- "a decline leaves the list alone"; "Costs beyond N are not read."
   pub plan-leaves : (n : ℕ) (tasks : List Task) → Leaves n tasks
   pub plan-reads-to-n : (n : ℕ) (tasks : List Task) → NotRead n tasks
-  -- Document 01's cases marked P, plan's two among them.
+  -- "The cases marked P form one proved table", plan's two among them.
   pub worked-cases : WorkedCases

@@ -8,7 +8,7 @@ use Rattle.model.specs.Limits.{maxStations}
 use Rattle.model.specs.Layout.{imageSize, replySize}
 use Rattle.model.specs.Calls.{advancing}
 use Rattle.model.specs.History.{Entry, entryDue}
-use Rattle.model.specs.Demand3.{Lent, Run, started, outcome, afterCall, afterAll, AllAllowed}
+use Rattle.model.specs.Runs.{Lent, Run, started, outcome, afterCall, afterAll, AllAllowed}
 use Rattle.schedule.specs.Valid.{_∈_}
 
 -- Advances, by the reply buffers that are lent to them.

@@ -1,9 +1,8 @@
 -- "The cases marked P form one proved table": document 01's counter examples, in its order.
 use mathlib.Core.Path.{_≡_}
-use mathlib.Core.Bool.{Bool, true}
-use mathlib.Core.List.{List, _++_, map}
-use Rattle.model.specs.Lists.{all}
-use Rattle.model.specs.Table.{Row, holds}
+use mathlib.Core.Bool.{true}
+use mathlib.Core.List.{List, [], _∷_, _++_, map}
+use Rattle.model.specs.Table.{Row, Hold}
 use Rattle.model.specs.Cases.{paperCases}
 use Rattle.plan_model.specs.Cases.{Printing, isPrinted, paperTables}
 
@@ -13,12 +12,16 @@ pub data Case : Type 0 where
   -- What the plan program prints for an input, whole.
   ofPlan : Printing → Case
 
-unfoldable pub caseHolds : Case → Bool
-caseHolds (ofCalls rows) = holds rows
-caseHolds (ofPlan printing) = isPrinted printing
+abbrev pub CaseHolds : Case → Type 0
+CaseHolds (ofCalls rows) = Hold rows
+CaseHolds (ofPlan printing) = isPrinted printing ≡ true
+
+abbrev pub EachHolds : List Case → Type 0
+EachHolds [] = Unit {0}
+EachHolds (case ∷ later) = CaseHolds case × EachHolds later
 
 unfoldable pub paperTable : List Case
 paperTable = map ofCalls paperCases ++ map ofPlan paperTables
 
 abbrev pub WorkedCases : Type 0
-WorkedCases = all caseHolds paperTable ≡ true
+WorkedCases = EachHolds paperTable

@@ -1,4 +1,4 @@
--- The premises of `DueTimesHold` can be met: a list of events with three acceptances, an advance, and a tick in which all that is in service ends early. (`holdsFrom` names all that the calls compute with.)
+-- The premises of `DueTimesHold` can be met: a list of events with three acceptances, an advance, and a tick in which all that is in service ends early. (`readRow` names all that the calls compute with.)
 use mathlib.Core.Path.{_≡_, refl}
 use mathlib.Core.List.{List, [], _∷_, map}
 use Prim.Native.Nat.{ℕ, _≤_}
@@ -10,7 +10,7 @@ use Rattle.model.specs.State.{idle}
 use Rattle.model.specs.Tick.{oneLess}
 use Rattle.model.specs.declared.Block.{Block}
 use Rattle.model.specs.History.{Entry, History, begun, entryBound, acceptIn, startsIn}
-use Rattle.model.specs.Table.{holdsFrom}
+use Rattle.model.specs.Table.{readRow}
 use Rattle.schedule.specs.Valid.{_∈_}
 use Rattle.schedule.specs.Pass.{Ticked}
 use Rattle.schedule.proofs.Laws.{same-ticket, same-left, at-map}
@@ -55,15 +55,15 @@ events =
     ∷ []
 
 first-may : MayAccept (begun 2) (block 20 2 3)
-unfolding holdsFrom passIn ended block h₀ h₁ h₂
+unfolding readRow passIn ended block h₀ h₁ h₂
 first-may = record { costs = of-two InRange 2 3 (omega arith) (omega arith); arrival-on-time = refl; live-on-time = refl }
 
 second-may : MayAccept (acceptIn (block 20 2 3) (begun 2)) (block 9 1 2)
-unfolding holdsFrom passIn ended block h₀ h₁ h₂
+unfolding readRow passIn ended block h₀ h₁ h₂
 second-may = record { costs = of-two InRange 1 2 (omega arith) (omega arith); arrival-on-time = refl; live-on-time = refl }
 
 third-may : MayAccept h₂ (block 100 1 1)
-unfolding holdsFrom passIn ended block h₀ h₁ h₂
+unfolding readRow passIn ended block h₀ h₁ h₂
 third-may = record { costs = of-two InRange 1 1 (omega arith) (omega arith); arrival-on-time = refl; live-on-time = refl }
 
 kept₀ : Kept h₀
@@ -86,11 +86,11 @@ allowed = record { low = omega arith; high = omega arith; allowed = (first-may, 
 
 -- three orders, none out yet: the first is at station 2 after its early end, and each is in time by the theorem
 pub stations : map (λ (e : Entry). e .station) (reached 2 events .orders) ≡ 2 ∷ 1 ∷ 1 ∷ []
-unfolding holdsFrom passIn ended block h₀ h₁ h₂ events
+unfolding readRow passIn ended block h₀ h₁ h₂ events
 stations = refl
 
 pub bounds : map (entryBound (reached 2 events)) (reached 2 events .orders) ≡ 8 ∷ 8 ∷ 10 ∷ []
-unfolding holdsFrom passIn ended block h₀ h₁ h₂ events
+unfolding readRow passIn ended block h₀ h₁ h₂ events
 bounds = refl
 
 pub in-time : (e : Entry) → e ∈ reached 2 events .orders → InTime (reached 2 events) e

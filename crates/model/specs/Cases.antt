@@ -9,7 +9,6 @@ use Rattle.model.specs.Bytes.{twoBytes, fourBytes}
 use Rattle.model.specs.Layout.{imageSize, version, versionAt, stationCountAt, liveCountAt, headerZeroAt, clockAt, nextAt, servicesAt, serviceSize, servedAt, leftAt, serviceZeroAt, recordsAt, recordSize, ticketAt, acceptedAt, dueAt, sumAt, stationAt, stationZeroAt, ranksAt, costsAt, maximaAt, recordZeroAt, blockSize, replySize}
 use Rattle.model.specs.Questions.{zeros}
 use Rattle.model.specs.Calls.{Call, opening, quoting, offering, advancing}
-use Rattle.model.specs.Demand3.{Lent, Run, started}
 use Rattle.model.specs.Table.{Row, opens, gives, replies, illSized, altered, written, holding, stations, serving, outs, bounds, dues, inStep, lent}
 
 -- Eight numbers of two bytes each; those not named are zero.
@@ -404,21 +403,3 @@ imageCases = bytesInOrder ∷ sizesAndStations ∷ lastClock ∷ soundImages ∷
 
 unfoldable pub furtherCases : List (List Row)
 furtherCases = tickCases ++ offerCases ++ imageCases
-
--- Lists of calls as demand 3 has them, from a done open with N = 2. "X, due-in 20, at 0", an open with a reply of a byte less, an open with N = 9, a late
--- quote, "then Y at 0, due-in 7", and seven advances: "X is out at 5, Y at 7."
-unfoldable pub listStart : Run
-listStart = started (replicate imageSize 165) 2 (lent replySize)
-
-abbrev withReply : ℕ → Call → Lent
-withReply size call = record { call = call; reply = lent size }
-
-unfoldable pub mixedCalls : List Lent
-mixedCalls =
-    withReply replySize (offering (X 20 0)) ∷ withReply (replySize - 1) (opening 3) ∷ withReply replySize (opening 9)
-    ∷ withReply replySize (quoting (Y 6 5)) ∷ withReply replySize (offering (Y 7 5))
-    ∷ replicate 7 (withReply replySize advancing)
-
--- "as the first two but X rank 5, Y rank 0: Y out at 3, X at 6."
-unfoldable pub reversedCalls : List Lent
-reversedCalls = withReply replySize (offering (X 20 5)) ∷ withReply replySize (offering (Y 7 0)) ∷ replicate 6 (withReply replySize advancing)

@@ -13,6 +13,6 @@ pub mod Admission
 pub mod Calls
 pub mod History
 pub mod StateOf
-pub mod Demand3
+pub mod Runs
 pub mod Table
 pub mod Cases

@@ -3,7 +3,7 @@
 use mathlib.Core.Bool.{Bool, true, false, cond, _&&_, _||_}
 use mathlib.Core.List.{List, [], _∷_, _++_, map}
 use mathlib.Core.Option.{Option, none, some}
-use Prim.Native.Nat.{ℕ, _+_}
+use Prim.Native.Nat.{ℕ, suc, _+_}
 use lib.ListN.{length, take, drop, replicate}
 use lib.Dec.{eqb}
 use Rattle.model.specs.declared.Order.{Order}
@@ -21,7 +21,7 @@ use Rattle.model.specs.Admission.{blockOf, dueOf, arrival, joinedBy, joi
 use Rattle.model.specs.Calls.{Result, result, replyQuestion, lengthQuestion, imageQuestions, openNumber, openCall, offerNumber, offerCall, quoteCall, advanceNumber, advanceAnswer, advanceCall, Call, opening, quoting, offering, advancing, perform}
 use Rattle.model.specs.History.{Entry, begun, isNone, live, liveOrders, entryDue, members, entryBound, entering, joins, acceptIn, entryView, startsIn, tickIn, leaves, leaveIn, advanceIn, feed}
 use Rattle.model.specs.StateOf.{recordOf, stateOf}
-use Rattle.model.specs.Demand3.{Run}
+use Rattle.model.specs.Runs.{Run}
 
 pub data Row : Type 0 where
   -- Open is done. The history begins anew.
@@ -80,40 +80,64 @@ onward run call r = record { image = r .image; history = feed call (r .number) (
 abbrev pub lent : ℕ → List ℕ
 lent size = replicate size 238
 
--- Whether the rows hold, in turn, from a run on. The long line names all that the calls compute with, so that a proof unfolds `holds` alone.
-unfoldable pub holdsFrom : Run → List Row → Bool
+-- Whether a row holds of a run, and the run after it.
+pub record Read : Type 0 where
+  pub holds : Bool
+  pub run : Run
+
+-- The long line names all that the calls compute with, so that a proof unfolds `Hold` alone.
+unfoldable pub readRow : Run → Row → Read
 unfolding overwritten mayChange outTick gave opened onward total largest larger concat all any has same only numbered allStations upward eightBytes eightHalves fresh precedes better first entryOf startAt startEach oneLess stationAfter vacate ticketOut view moveTo starts tick leave advance advanceOut sumOf maximaOf delayBound boundTick onTime margin marked serviceOf serviceBytes orderOf orderBytes decode encode stationCountInRange liveCountInRange clockInRange zeroBytes zeroBytesZero unusedRecordsZero rising ticketsInOrder acceptedByNow dueInRange stationInUse costsInRange maximaInRange sumInRange zeroBeyond recordZeroBeyond isIdle fieldsBeyondZero serves servicesInOrder clauses sound firstNo replyBytes blockOf dueOf arrival joinedBy joinedLive accept smallest smallestMargin blockLengthQuestion blockQuestions stateQuestions orderQuestions offerAnswer quoteAnswer result replyQuestion lengthQuestion imageQuestions openNumber openCall offerNumber offerCall quoteCall advanceNumber advanceAnswer advanceCall perform begun isNone live liveOrders entryDue members entryBound entering joins acceptIn entryView startsIn tickIn leaves leaveIn advanceIn feed recordOf stateOf
-holdsFrom run [] = true
-holdsFrom run (opens n ∷ rows) =
+readRow run (opens n) =
     let r = perform (opening n) (run .image) (lent replySize) in
-    gave (opening n) (run .image) 0 (replyBytes 0 zeros) r && holdsFrom (opened n r) rows
-holdsFrom run (gives call number answer ∷ rows) =
+    record { holds = gave (opening n) (run .image) 0 (replyBytes 0 zeros) r; run = opened n r }
+readRow run (gives call number answer) =
     let r = perform call (run .image) (lent replySize) in
-    gave call (run .image) number (replyBytes number answer) r && holdsFrom (onward run call r) rows
-holdsFrom run (replies call number reply ∷ rows) =
+    record { holds = gave call (run .image) number (replyBytes number answer) r; run = onward run call r }
+readRow run (replies call number reply) =
     let r = perform call (run .image) (lent replySize) in
-    gave call (run .image) number reply r && holdsFrom (onward run call r) rows
-holdsFrom run (illSized replyLength imageLength call number ∷ rows) =
+    record { holds = gave call (run .image) number reply r; run = onward run call r }
+readRow run (illSized replyLength imageLength call number) =
     let image = take imageLength (run .image ++ (0 ∷ [])) in
     let reply = cond (eqb number 1) (lent replyLength) (replyBytes number zeros) in
     let r = perform call image (lent replyLength) in
-    eqb (r .number) number && same (r .reply) reply && same (r .image) image && holdsFrom run rows
-holdsFrom run (altered place bytes call number answer ∷ rows) =
+    record { holds = eqb (r .number) number && same (r .reply) reply && same (r .image) image; run = run }
+readRow run (altered place bytes call number answer) =
     let image = overwritten (run .image) place bytes in
-    gave call image number (replyBytes number answer) (perform call image (lent replySize)) && holdsFrom run rows
-holdsFrom run (written place bytes ∷ rows) = holdsFrom (record { image = overwritten (run .image) place bytes; history = run .history }) rows
-holdsFrom run (holding place bytes ∷ rows) = same (part (run .image) place (length bytes)) bytes && holdsFrom run rows
-holdsFrom run (stations expected ∷ rows) = same (map (λ (o : Order). o .station) (decode (run .image) .orders)) expected && holdsFrom run rows
-holdsFrom run (serving tickets left ∷ rows) =
+    record { holds = gave call image number (replyBytes number answer) (perform call image (lent replySize)); run = run }
+readRow run (written place bytes) = record { holds = true; run = record { image = overwritten (run .image) place bytes; history = run .history } }
+readRow run (holding place bytes) = record { holds = same (part (run .image) place (length bytes)) bytes; run = run }
+readRow run (stations expected) = record { holds = same (map (λ (o : Order). o .station) (decode (run .image) .orders)) expected; run = run }
+readRow run (serving tickets left) =
     let s = decode (run .image) in
     let entries = take (s .n) (s .services) in
-    same (map (λ (e : Service). e .ticket) entries) tickets && same (map (λ (e : Service). e .left) entries) left && holdsFrom run rows
-holdsFrom run (outs expected ∷ rows) = same (map (λ (e : Entry). outTick (e .out)) (run .history .orders)) expected && holdsFrom run rows
-holdsFrom run (bounds expected ∷ rows) = same (map (entryBound (run .history)) (run .history .orders)) expected && holdsFrom run rows
-holdsFrom run (dues expected ∷ rows) = same (map entryDue (run .history .orders)) expected && holdsFrom run rows
-holdsFrom run (inStep ∷ rows) = same (run .image) (encode (stateOf (run .history))) && holdsFrom run rows
+    record { holds = same (map (λ (e : Service). e .ticket) entries) tickets && same (map (λ (e : Service). e .left) entries) left; run = run }
+readRow run (outs expected) = record { holds = same (map (λ (e : Entry). outTick (e .out)) (run .history .orders)) expected; run = run }
+readRow run (bounds expected) = record { holds = same (map (entryBound (run .history)) (run .history .orders)) expected; run = run }
+readRow run (dues expected) = record { holds = same (map entryDue (run .history .orders)) expected; run = run }
+readRow run inStep = record { holds = same (run .image) (encode (stateOf (run .history))); run = run }
+
+-- A test that is passed, with its number: where the prover refuses a table, it names the row.
+pub data Held : ℕ → Bool → Type 0 where
+  held : (k : ℕ) → Held k true
+
+-- The rows hold, read in turn from a run on; the first has the number k.
+unfoldable pub HoldFrom : ℕ → Run → List Row → Type 0
+unfolding readRow
+HoldFrom k run [] = Unit {0}
+HoldFrom k run (row ∷ rows) = let read = readRow run row in Held k (read .holds) × HoldFrom (suc k) (read .run) rows
 
 -- From a buffer of an image's length that no call has written yet.
-unfoldable pub holds : List Row → Bool
-unfolding holdsFrom
-holds rows = holdsFrom (record { image = replicate imageSize 165; history = begun 0 }) rows
+unfoldable pub Hold : List Row → Type 0
+unfolding HoldFrom
+Hold rows = HoldFrom 1 (record { image = replicate imageSize 165; history = begun 0 }) rows
+
+-- Of a table of cases, every row of every case.
+abbrev pub AllHold : List (List Row) → Type 0
+AllHold [] = Unit {0}
+AllHold (rows ∷ cases) = Hold rows × AllHold cases
+
+-- Each entry of a list passes a test; the first has the number k.
+abbrev pub EachFrom : {A : Type 0} → (A → Bool) → ℕ → List A → Type 0
+EachFrom test k [] = Unit {0}
+EachFrom test k (x ∷ xs) = Held k (test x) × EachFrom test (suc k) xs

@@ -1,12 +1,12 @@
--- The worked tables hold, and so do the numbers.
+-- The worked tables hold, and so do the numbers, each with its own number: where one does not, the prover refuses the term with that number.
 use mathlib.Core.Path.{_≡_, refl}
 use mathlib.Core.Bool.{true}
-use Rattle.model.specs.Lists.{all}
+use Rattle.model.specs.Table.{held, EachFrom}
 use Rattle.plan_model.specs.Cases.{isPrinted, paperTables, chapterSix, largestResponse, isNumbered, planNumbers, readings}
 
-pub paper-tables-hold : all isPrinted paperTables ≡ true
-unfolding all isPrinted
-paper-tables-hold = refl {a = true}
+pub paper-tables-hold : EachFrom isPrinted 1 paperTables
+unfolding isPrinted
+paper-tables-hold = (held 1, (held 2, tt))
 
 pub chapter-six-holds : isPrinted chapterSix ≡ true
 unfolding isPrinted
@@ -16,10 +16,10 @@ pub largest-response-holds : isPrinted largestResponse ≡ true
 unfolding isPrinted largestResponse
 largest-response-holds = refl {a = true}
 
-pub plan-numbers-hold : all isNumbered planNumbers ≡ true
-unfolding all isNumbered
-plan-numbers-hold = refl {a = true}
+pub plan-numbers-hold : EachFrom isNumbered 1 planNumbers
+unfolding isNumbered
+plan-numbers-hold = (held 1, (held 2, (held 3, (held 4, (held 5, (held 6, (held 7, (held 8, tt))))))))
 
-pub readings-hold : all isPrinted readings ≡ true
-unfolding all isPrinted
-readings-hold = refl {a = true}
+pub readings-hold : EachFrom isPrinted 1 readings
+unfolding isPrinted
+readings-hold = (held 1, (held 2, (held 3, (held 4, (held 5, (held 6, (held 7, (held 8, (held 9, (held 10, (held 11, (held 12, (held 13, (held 14, (held 15, (held 16, tt))))))))))))))))

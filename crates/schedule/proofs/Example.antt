@@ -1,4 +1,4 @@
--- The premises of `ServedInFull` and `ReachedValid` can be met: two orders, the second accepted after an advance. (`holdsFrom` names all that the calls compute with.)
+-- The premises of `ServedInFull` and `ReachedValid` can be met: two orders, the second accepted after an advance. (`readRow` names all that the calls compute with.)
 use mathlib.Core.Path.{_≡_, refl}
 use mathlib.Core.List.{List, [], _∷_, map}
 use Prim.Native.Nat.{ℕ, zero, suc, _≤_}
@@ -8,7 +8,7 @@ use Rattle.model.specs.Lists.{at}
 use Rattle.model.specs.State.{idle, fresh}
 use Rattle.model.specs.declared.Block.{Block}
 use Rattle.model.specs.Admission.{accept}
-use Rattle.model.specs.Table.{holdsFrom}
+use Rattle.model.specs.Table.{readRow}
 use Rattle.schedule.specs.Valid.{Valid}
 use Rattle.schedule.specs.Accept.{Acceptable}
 use Rattle.schedule.specs.Course.{Step, accepting, advancing, after, AllAcceptable, duringTicks, Course}
@@ -29,11 +29,11 @@ later : List Step
 later = advancing ∷ accepting (block 0 1 2) ∷ advancing ∷ advancing ∷ advancing ∷ advancing ∷ advancing ∷ advancing ∷ []
 
 first-acceptable : Acceptable (fresh 2) (block 5 2 3)
-unfolding holdsFrom block later
+unfolding readRow block later
 first-acceptable = record { stations = omega arith; ticket = omega arith; costs = of-two (λ c. 1 ≤ c) 2 3 (omega arith) (omega arith) }
 
 later-acceptable : AllAcceptable (accept (fresh 2) (block 5 2 3)) later
-unfolding holdsFrom block later
+unfolding readRow block later
 later-acceptable = (record { stations = omega arith; ticket = omega arith; costs = of-two (λ c. 1 ≤ c) 1 2 (omega arith) (omega arith) }, tt)
 
 valid : Valid (after (fresh 2) (accepting (block 5 2 3) ∷ later))
@@ -48,5 +48,5 @@ tickets : List Service → List ℕ
 tickets entries = at idle entries 1 .ticket ∷ at idle entries 2 .ticket ∷ []
 
 ticks : map tickets (duringTicks (accept (fresh 2) (block 5 2 3)) later) ≡ (1 ∷ 0 ∷ []) ∷ (1 ∷ 0 ∷ []) ∷ (2 ∷ 1 ∷ []) ∷ (0 ∷ 1 ∷ []) ∷ (0 ∷ 1 ∷ []) ∷ (0 ∷ 2 ∷ []) ∷ (0 ∷ 2 ∷ []) ∷ []
-unfolding holdsFrom tickets block later
+unfolding readRow tickets block later
 ticks = refl

@@ -1,54 +1,15 @@
 -- Demand 3: the claim about every list of calls, as "The run book" says it. This is the statement; a proof is a value of `Demand3`.
 use mathlib.Core.Path.{_≡_}
-use mathlib.Core.Logic.{_≢_}
 use mathlib.Core.List.{List, [], _∷_, List·Memᴰ}
 use mathlib.Core.Option.{none, some}
 use Prim.Native.Nat.{ℕ, _≤_, _<_}
 use lib.ListN.{length}
 use Rattle.model.specs.Limits.{maxStations}
 use Rattle.model.specs.Bytes.{word}
 use Rattle.model.specs.Layout.{imageSize, replySize, replyTicketAt, replyTickAt}
-use Rattle.model.specs.Calls.{Result, openCall, advanceCall, Call, opening, quoting, offering, advancing, perform}
-use Rattle.model.specs.History.{Entry, History, begun, entryDue, entryBound, feed, outAt}
-
--- A call of the list, with the reply buffer that is lent to it: "the reply buffer of each call has any length and holds any bytes".
-pub record Lent : Type 0 where
-  pub call : Call
-  pub reply : List ℕ
-
--- The image, and the history beside it, as the calls so far leave them.
-pub record Run : Type 0 where
-  pub image : List ℕ
-  pub history : History
-
--- "A list starts from the image that a done open leaves, with any N from 1 to 8."
-unfoldable pub started : List ℕ → ℕ → List ℕ → Run
-started image n reply = record { image = openCall image n reply .image; history = begun n }
-
--- "Each call gets the image as the call before left it, and nobody else writes it."
-unfoldable pub outcome : Run → Lent → Result
-outcome run lent = perform (lent .call) (run .image) (lent .reply)
-
--- "The book is fed the calls in turn: which call it is, its arguments other than image and reply, and the number it returned."
-unfoldable pub afterCall : Run → Lent → Run
-afterCall run lent =
-    let result = outcome run lent in
-    record { image = result .image; history = feed (lent .call) (result .number) (run .history) }
-
-unfoldable pub afterAll : Run → List Lent → Run
-afterAll run [] = run
-afterAll run (lent ∷ later) = afterAll (afterCall run lent) later
-
--- "lists of these calls: quote, offer, advance, and open where it declines"
-abbrev pub Allowed : Call → Result → Type 0
-Allowed (opening n) result = result .number ≢ 0
-Allowed (quoting block) result = Unit {0}
-Allowed (offering block) result = Unit {0}
-Allowed advancing result = Unit {0}
-
-abbrev pub AllAllowed : Run → List Lent → Type 0
-AllAllowed run [] = Unit {0}
-AllAllowed run (lent ∷ later) = Allowed (lent .call) (outcome run lent) × AllAllowed (afterCall run lent) later
+use Rattle.model.specs.Calls.{Result, openCall, advanceCall, Call, opening, quoting, offering, advancing}
+use Rattle.model.specs.History.{Entry, History, entryDue, entryBound, outAt}
+use Rattle.model.specs.Runs.{Lent, Run, started, outcome, afterCall, afterAll, AllAllowed}
 
 -- "if it is out, its out tick is at most acceptance tick + delay sum, and at most its due tick; if it is live, the clock is below both,
 -- and an advance made next with a reply of 16 bytes returns 0"
