@@ -1,6 +1,6 @@
 -- What a stranger may rely on, in one record. The contracts of the calls say that each does what `openCall`, `quoteCall`, `offerCall` or `advanceCall` says,
--- and those of plan that it does what `planNumber`, `afterPlan` and `planOutput` say; these are theorems about the same definitions. Each has a use in
--- proofs/uses: a definite case from which everything that it says is taken, in figures.
+-- and those of plan that it does what `planNumber`, `afterPlan` and `planOutput` say; these are theorems about the same definitions. Each has a use in the
+-- crate `uses`: a definite case from which everything that it says is taken, in figures.
 use mathlib.Core.Path.{_≡_}
 use mathlib.Core.Bool.{true}
 use mathlib.Core.List.{List}

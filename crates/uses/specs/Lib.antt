@@ -1,0 +1,2 @@
+-- The definite cases.
+pub mod DefiniteLists
