@@ -100,6 +100,8 @@ int counter_take(struct counter *counter, struct request *request)
         request->wrong = "a line has at most 255 bytes";
     } else if (memchr(counter->bytes, '\0', length) != NULL) {
         request->wrong = "a line has no zero byte";
+    } else if (length > 0 && end[-1] == '\r') {
+        request->wrong = "the line ends in a carriage return and a line feed, and has to end in a line feed alone";
     } else {
         *end = '\0';
         read_request(request, counter->bytes);

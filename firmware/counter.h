@@ -5,8 +5,8 @@
  *     status                      what does the image say?
  *     wait TICKS                  the next line is read when so many ticks have passed
  *
- * Words are parted by single spaces, numbers are decimals, and a line feed ends each line. Only what does not fit the fields of an order block is refused
- * here; which orders are in range is for the dispatcher to say. */
+ * Words are parted by single spaces, numbers are decimals, and a line feed ends each line; a carriage return before it is refused by words of its own, since
+ * no screen shows it. Otherwise only what does not fit the fields of an order block is refused here; which orders are in range is for the dispatcher to say. */
 #ifndef COUNTER_H
 #define COUNTER_H
 

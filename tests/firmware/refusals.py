@@ -11,6 +11,7 @@ import sys
 
 from cabinet import Image, Runner, check, layout, whole_lines
 
+CARRIAGE_RETURN = "not understood: the line ends in a carriage return and a line feed, and has to end in a line feed alone"
 REFUSED = re.compile(r"cabinet: the image \S+ is refused by number (\d+): .+ The file is left as it is\. .+\n")
 
 
@@ -149,24 +150,29 @@ def lines_and_options(runner):
     # Each is one line that is no request. Nothing of it is done, and the next line is read as it is.
     long_line = b"offer 9 " + b"0:1 " * 200
     wrong = [b"", b"offer", b"offer ", b"offer  9 0:1 0:1", b"offer 9 0:1 0:1 ", b" offer 9 0:1 0:1", b"offer 9 0:1 0", b"offer 9 0:1 0:", b"offer 9 0:1 :1",
-             b"offer -1 0:1 0:1", b"offer 4294967296 0:1 0:1", b"offer 9 256:1 0:1", b"offer 9 0:65536 0:1", b"offer 9 0:1 0:1\r", b"offer 9 0:1 0:1\0",
-             b"offer 9 0:1 0:1\0 0:1", b"offer 9" + b" 0:1" * 9, b"offer 99999999999999999999999999 0:1 0:1", b"wait", b"wait x", b"wait 1 ",
+             b"offer -1 0:1 0:1", b"offer 4294967296 0:1 0:1", b"offer 9 256:1 0:1", b"offer 9 0:65536 0:1", b"offer 9 0:1 0:1\0", b"offer 9 0:1 0:1\0 0:1",
+             b"offer 9" + b" 0:1" * 9, b"offer 99999999999999999999999999 0:1 0:1", b"wait", b"wait x", b"wait 1 ",
              b"wait 4294967296", b"status ", b"Status", b"offer 9 0:1 0:1" + b" " * 300, long_line, b"x" * 255, b"x" * 256, b"x" * 257, b"x" * 511, b"x" * 512,
              b"x" * 513]
+    wrong += [b"offer 9 0:1 0:1\r", b"quote 9 0:1 0:1\r", b"wait 1\r", b"status\r", b"status\r\r", b"status \r", b"\r", b"x" * 254 + b"\r",
+              b"x" * 255 + b"\r", b"x" * 600 + b"\r", b"status\0\r", b"\rstatus", b"offer 9\r0:1 0:1", b"sta\rtus", b"status\r "]
     for text in wrong:
         runner.store(empty_image(2, 5, 3))
         status, output, errors = runner.run(text + b"\nstatus\n", "--tick", 0)
         lines = whole_lines(output)
         check((status, errors, len(lines)) == (0, "", 3) and lines[1].startswith("not understood: ") and
               lines[2] == Image(empty_image(2, 5, 3)).lines("status")[0], text, status, errors, lines)
-    for text in (b"offer 9 0:1 0:1", b"status", b"x" * 300):
+        # A carriage return before the line feed is named, whatever stands before it; what is too long, or has a zero byte, has that said of it.
+        named = text.endswith(b"\r") and len(text) <= 255 and b"\0" not in text
+        check((lines[1] == CARRIAGE_RETURN) == named and ("carriage return" in lines[1]) == named, text, lines)
+    for text in (b"offer 9 0:1 0:1", b"status", b"status\r", b"x" * 300):
         status, output, errors = runner.run(text, "--tick", 0)
         check(status == 0 and whole_lines(output)[1:] == ["not understood: the last line has no line feed"], text, status, output, errors)
         check(runner.stored() == empty_image(2, 5, 3), text, "without a line feed changes the image")
     # A line of 255 bytes is one: zeros before a number change nothing.
     longest = b"offer 9 0:1 0:" + b"1".rjust(255 - len(b"offer 9 0:1 0:"), b"0")
     check(whole_lines(runner.run(longest + b"\n", "--tick", 0)[1])[1:] == ["accepted ticket 3 out-by 7 due 14 margin 7"], "a line of 255 bytes")
-    print(f"{len(wrong) + 3} lines that are no requests, and the options")
+    print(f"{len(wrong) + 4} lines that are no requests, those that end in a carriage return in words of their own, and the options")
 
 
 def main(program, shim, lists, folder):

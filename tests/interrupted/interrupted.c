@@ -1,0 +1,562 @@
+/* interrupted [PART [FAULT]]: what is left if the power goes in the middle of a call, seen by stepping through the call.
+ *
+ * A child process makes a call on buffers that it shares with its parent. The parent lets it go on by one instruction at a time (ptrace), and after each it
+ * looks at the image: this is what memory that survives a power cut would hold if the power went there. An image that is neither the one before the call nor
+ * the one after it is half-written.
+ *
+ * fact: In offers, advances and opens that are done the lent image is half-written for a while, and of these images some are sound: no later call
+ *     notices. One of an advance has the clock up and nothing started; the order of that cabinet, which had no tick to spare, is then out after its due tick.
+ * nothing: Quotes, and calls that are declined, do not write the image at all.
+ * advice: What include/dispatcher.h says is to be done. The call gets a copy, and the copy is stored whole if the call is done: here into the one of two slots
+ *     that is not in use, and then the byte that says which slot is in use is changed. At every instruction of call and store the slot in use holds the image
+ *     before the call, or the one after it, whole.
+ *
+ * It goes through all three parts, or one. With the name of a fault it does something wrong in that part, which it has to find. The situations of the first two
+ * parts are written out here, those of the third are drawn. */
+#define _DEFAULT_SOURCE
+#include "../../firmware/bytes.h"
+#include "../layout.h"
+
+#include <errno.h>
+#include <signal.h>
+#include <stdio.h>
+#include <stdlib.h>
+#include <string.h>
+#include <sys/mman.h>
+#include <sys/ptrace.h>
+#include <sys/wait.h>
+#include <unistd.h>
+
+#define NUMBERS 15
+#define MOST_STEPS 1000000 /* of one call; the longest has some thousands */
+#define MOST_HALVES 4096   /* distinct half-written images of one call */
+#define NOT_TRACED 77      /* exit status of a child that may not be traced */
+#define SEED 20480
+#define EACH 10 /* calls that are drawn for each number of stations, in the third part */
+
+enum { OPEN, QUOTE, OFFER, ADVANCE, CALLS };
+static const char *const names[] = {"open", "quote", "offer", "advance"};
+
+/* Memory that survives a power cut: a restart takes slot[in_use]. */
+struct kept {
+    uint8_t slot[2][IMAGE_SIZE];
+    volatile uint8_t in_use;
+};
+
+/* What parent and child share. */
+static struct room {
+    uint8_t image[IMAGE_SIZE]; /* in the first two parts this is lent */
+    struct kept kept;          /* in the third a copy of what is here */
+    uint8_t reply[REPLY_SIZE];
+    volatile int phase;
+    volatile uint32_t number;
+} *room;
+enum { BEFORE, CALLING, STORING, FINISHED };
+
+/* The call that is stepped through: the image before it, and its other arguments. */
+static struct {
+    int call;
+    uint8_t image[IMAGE_SIZE], order[BLOCK_SIZE];
+    size_t image_length, order_length;
+    uint32_t stations;
+} asked = {.image_length = IMAGE_SIZE, .order_length = BLOCK_SIZE};
+
+static const char *fault = "", *doing = "start";
+
+static void fail(const char *text)
+{
+    printf("%s: %s\n", doing, text);
+    exit(1);
+}
+
+static int is_fault(const char *name)
+{
+    return strcmp(fault, name) == 0;
+}
+
+/* One of the four calls, or a stand-in for it with a fault. */
+static uint32_t make_call(int call, uint8_t *image, uint8_t *reply)
+{
+    const size_t length = asked.image_length;
+    uint32_t number;
+    switch (call) {
+    case OPEN: return dispatcher_open(image, length, asked.stations, reply, REPLY_SIZE);
+    case QUOTE: number = dispatcher_quote(image, length, asked.order, asked.order_length, reply, REPLY_SIZE); break;
+    case OFFER: number = dispatcher_offer(image, length, asked.order, asked.order_length, reply, REPLY_SIZE); break;
+    default: number = dispatcher_advance(image, length, reply, REPLY_SIZE);
+    }
+    /* Both put back what they wrote, so that nobody who looks at the image after the call can see it. */
+    if ((is_fault("a-decline-writes") && number != DISPATCHER_DONE && call != QUOTE) || (is_fault("a-quote-writes") && call == QUOTE)) {
+        volatile uint8_t *byte = image + IMAGE_SIZE - 1;
+        *byte ^= 1;
+        *byte ^= 1;
+    }
+    return number;
+}
+
+/* A call that takes the mark away while it writes, so that every half-written image is refused. The library has no such call, and the header says so. */
+static uint32_t make_marked_call(int call, uint8_t *image, uint8_t *reply)
+{
+    uint8_t copy[IMAGE_SIZE];
+    memcpy(copy, image, IMAGE_SIZE);
+    uint32_t number = make_call(call, copy, reply);
+    if (number == DISPATCHER_DONE) {
+        volatile uint8_t *mark = image;
+        uint8_t first = copy[0];
+        *mark = 0;
+        memcpy(image + 1, copy + 1, IMAGE_SIZE - 1);
+        *mark = first;
+    }
+    return number;
+}
+
+/* What the header advises: a copy is lent and, if the call is done, stored whole. The slot in use is not written; one byte then says that the other is. */
+static uint32_t kept_call(int call, struct kept *kept, uint8_t *reply)
+{
+    static uint8_t copy[IMAGE_SIZE];
+    uint8_t now = kept->in_use, other = (uint8_t)(1 - now);
+    memcpy(copy, kept->slot[now], IMAGE_SIZE);
+    uint32_t number = make_call(call, is_fault("no-copy") ? kept->slot[now] : copy, reply);
+    room->phase = STORING;
+    if (number != DISPATCHER_DONE || call == QUOTE || is_fault("no-copy"))
+        return number;
+    if (is_fault("flip-before-store"))
+        kept->in_use = other;
+    if (is_fault("store-over-the-slot-in-use"))
+        other = now;
+    memcpy(kept->slot[other], copy, is_fault("store-not-whole") ? CLOCK_AT : IMAGE_SIZE);
+    /* The slot is written before the byte. Memory behind a cache, or on a bus, needs here what makes it sure that the slot's bytes have arrived. */
+    __atomic_signal_fence(__ATOMIC_SEQ_CST);
+    kept->in_use = other;
+    return number;
+}
+
+static void child(int advised)
+{
+    if (ptrace(PTRACE_TRACEME, 0, NULL, NULL) < 0 || (is_fault("not-traced") && ptrace(PTRACE_TRACEME, 0, NULL, NULL) < 0))
+        _exit(NOT_TRACED);
+    raise(SIGSTOP);
+    room->phase = CALLING;
+    room->number = advised                               ? kept_call(asked.call, &room->kept, room->reply)
+                   : is_fault("half-written-is-refused") ? make_marked_call(asked.call, room->image, room->reply)
+                                                         : make_call(asked.call, room->image, room->reply);
+    room->phase = FINISHED;
+    for (;;)
+        _exit(0);
+}
+
+typedef void look(void);
+
+/* Makes the call in a child and looks after each instruction from the first of the call to the last of the store. Gives how many these were. */
+static unsigned long step_through(int advised, look *after_each)
+{
+    int status;
+    room->phase = BEFORE;
+    fflush(stdout);
+    pid_t pid = fork();
+    if (pid < 0)
+        fail("no process can be started");
+    if (pid == 0)
+        child(advised);
+    if (waitpid(pid, &status, 0) != pid || !WIFSTOPPED(status) || WSTOPSIG(status) != SIGSTOP)
+        fail("this machine does not let a program step through its child (ptrace): the calls were not looked at");
+    unsigned long steps = 0;
+    for (unsigned long all = 0; room->phase != FINISHED; all++) {
+        if (ptrace(PTRACE_SINGLESTEP, pid, NULL, NULL) < 0)
+            fail("this machine does not let a program step through its child (ptrace): the calls were not looked at");
+        if (waitpid(pid, &status, 0) != pid || !WIFSTOPPED(status) || WSTOPSIG(status) != SIGTRAP || all == MOST_STEPS)
+            fail("the call was not stepped through to its end");
+        if (room->phase != BEFORE) {
+            steps++;
+            after_each();
+        }
+    }
+    kill(pid, SIGKILL);
+    waitpid(pid, &status, 0);
+    return steps;
+}
+
+/* The number of questions 1 to 4, 0 for a sound image: a quote asks them first, and without an order block it goes no further. */
+static uint32_t soundness(const uint8_t *image)
+{
+    uint8_t reply[REPLY_SIZE];
+    uint32_t number = dispatcher_quote(image, IMAGE_SIZE, NULL, 0, reply, sizeof reply);
+    return number == DISPATCHER_BAD_ORDER_LENGTH ? DISPATCHER_DONE : number;
+}
+
+/* What was seen in the call that is stepped through. */
+static uint8_t after[IMAGE_SIZE], halves[MOST_HALVES][IMAGE_SIZE];
+static unsigned half_count;
+static unsigned long writes; /* how often the image changed from one instruction to the next */
+static uint8_t last_seen[IMAGE_SIZE];
+
+static void look_at_lent(void)
+{
+    if (memcmp(room->image, last_seen, IMAGE_SIZE) == 0)
+        return;
+    memcpy(last_seen, room->image, IMAGE_SIZE);
+    writes++;
+    if (memcmp(room->image, asked.image, IMAGE_SIZE) == 0 || memcmp(room->image, after, IMAGE_SIZE) == 0)
+        return;
+    for (unsigned k = 0; k < half_count; k++)
+        if (memcmp(room->image, halves[k], IMAGE_SIZE) == 0)
+            return;
+    if (half_count == MOST_HALVES)
+        fail("more half-written images than there is room for");
+    memcpy(halves[half_count++], room->image, IMAGE_SIZE);
+}
+
+/* Sums over the situations. */
+static unsigned long all_halves[CALLS], all_sound[CALLS], all_steps, idle_ticks, unwritten, seen[CALLS][NUMBERS];
+
+/* In the image all stations serve what they served before the advance, although an order starts in it, and the clock is up. */
+static int clock_up_nothing_started(const uint8_t *image)
+{
+    int starts = 0;
+    for (int j = 0; j < MAX_STATIONS; j++)
+        starts += get4(asked.image + SERVICE(j) + SERVED_AT) == 0 && get4(after + SERVICE(j) + SERVED_AT) != 0;
+    return starts > 0 && get4(image + CLOCK_AT) == get4(after + CLOCK_AT) &&
+           memcmp(image + SERVICES_AT, asked.image + SERVICES_AT, RECORDS_AT - SERVICES_AT) == 0;
+}
+
+static void say_half(const uint8_t *image)
+{
+    unsigned services = 0, records = 0;
+    for (int j = 0; j < MAX_STATIONS; j++)
+        services += memcmp(image + SERVICE(j), after + SERVICE(j), SERVICE_SIZE) != 0;
+    for (int k = 0; k < MAX_LIVE; k++)
+        records += memcmp(image + RECORD(k), after + RECORD(k), RECORD_SIZE) != 0;
+    printf("        sound: clock %lu, next %lu, live %u; of the image after the call it lacks", (unsigned long)get4(image + CLOCK_AT),
+           (unsigned long)get4(image + NEXT_AT), image[LIVE_COUNT_AT]);
+    if (memcmp(image, after, SERVICES_AT) != 0)
+        printf(" the head,");
+    printf(" %u of 8 stations and %u of 32 records\n", services, records);
+}
+
+/* The call on the lent image. */
+static void lent(const char *situation, int call, uint32_t number)
+{
+    doing = situation;
+    asked.call = call;
+    memcpy(after, asked.image, IMAGE_SIZE);
+    uint8_t reply[REPLY_SIZE];
+    if (make_call(call, after, reply) != number)
+        fail("the call gives another number");
+    memcpy(room->image, asked.image, IMAGE_SIZE);
+    memcpy(last_seen, asked.image, IMAGE_SIZE);
+    half_count = 0;
+    writes = 0;
+    unsigned long steps = step_through(0, look_at_lent);
+    all_steps += steps;
+    seen[call][number]++;
+    if (room->number != number || memcmp(room->image, after, IMAGE_SIZE) != 0 || memcmp(room->reply, reply, REPLY_SIZE) != 0)
+        fail("stepped through, the call gives another number, image or reply");
+    if (number != DISPATCHER_DONE || call == QUOTE) {
+        if (writes != 0)
+            fail("a quote, or a call that is declined, writes the image");
+        unwritten++;
+        return;
+    }
+    unsigned sound = 0;
+    for (unsigned k = 0; k < half_count; k++)
+        sound += soundness(halves[k]) == DISPATCHER_DONE;
+    printf("%-8s %-58s %6lu instructions, %4u half-written images, %3u of them sound\n", names[call], situation, steps, half_count, sound);
+    unsigned said = 0;
+    for (unsigned k = 0; k < half_count; k++) {
+        if (soundness(halves[k]) != DISPATCHER_DONE)
+            continue;
+        if (++said <= 2)
+            say_half(halves[k]);
+        idle_ticks += call == ADVANCE && clock_up_nothing_started(halves[k]);
+    }
+    all_halves[call] += half_count;
+    all_sound[call] += sound;
+}
+
+/* The image that a restart would take is the one before the call or the one after it, and never the one before it again. */
+static int new_seen;
+static void look_at_kept(void)
+{
+    const uint8_t *taken = room->kept.slot[room->kept.in_use];
+    if (memcmp(taken, after, IMAGE_SIZE) == 0 && (new_seen || room->phase != CALLING))
+        new_seen = 1;
+    else if (memcmp(taken, asked.image, IMAGE_SIZE) != 0)
+        fail(soundness(taken) == DISPATCHER_DONE ? "the image that is kept is half-written, and passes as sound" : "the image that is kept is half-written");
+    else if (new_seen)
+        fail("the image that is kept is the old one again");
+}
+
+/* The call as the header advises. The image that is kept afterwards is the next one that is asked of. */
+static uint32_t advised(int call)
+{
+    static int slot;
+    asked.call = call;
+    asked.image_length = IMAGE_SIZE;
+    asked.order_length = BLOCK_SIZE;
+    memcpy(after, asked.image, IMAGE_SIZE);
+    uint8_t reply[REPLY_SIZE];
+    uint32_t number = make_call(call, after, reply);
+    slot = 1 - slot;
+    memset(room->kept.slot, 0xff, sizeof room->kept.slot);
+    memcpy(room->kept.slot[slot], asked.image, IMAGE_SIZE);
+    room->kept.in_use = (uint8_t)slot;
+    new_seen = memcmp(asked.image, after, IMAGE_SIZE) == 0;
+    all_steps += step_through(1, look_at_kept);
+    if (room->number != number || memcmp(room->kept.slot[room->kept.in_use], after, IMAGE_SIZE) != 0 || memcmp(room->reply, reply, REPLY_SIZE) != 0)
+        fail("what is kept in the end is not what the call gives");
+    memcpy(asked.image, after, IMAGE_SIZE);
+    seen[call][number]++;
+    return number;
+}
+
+static void order(uint32_t due_in, uint8_t rank, int stations, uint16_t first, uint16_t second)
+{
+    memset(asked.order, 0, BLOCK_SIZE);
+    put4(asked.order + BLOCK_DUE_IN_AT, due_in);
+    for (int j = 0; j < stations; j++) {
+        asked.order[BLOCK_RANKS_AT + j] = rank;
+        put2(asked.order + BLOCK_COSTS_AT + 2 * j, j == 0 ? first : second);
+    }
+}
+
+/* Calls that only lead to a situation. */
+static void led(int call)
+{
+    uint8_t reply[REPLY_SIZE];
+    if (make_call(call, asked.image, reply) != DISPATCHER_DONE)
+        fail("a call that leads to a situation is declined");
+}
+
+static void cabinet(uint32_t stations)
+{
+    doing = "a situation";
+    asked.image_length = IMAGE_SIZE;
+    asked.order_length = BLOCK_SIZE;
+    asked.stations = stations;
+    led(OPEN);
+}
+
+static void ticks(int count)
+{
+    while (count-- > 0)
+        led(ADVANCE);
+}
+
+/* The two orders of document 01's counter examples, X with due-in 20 and Y with due-in 7. */
+static void offer_x(void)
+{
+    order(20, 0, 2, 2, 3);
+    led(OFFER);
+}
+
+static void order_y(void)
+{
+    order(7, 5, 2, 1, 2);
+}
+
+/* So many orders of cost `cost` at each of 8 stations. */
+static void full(int live, uint16_t cost)
+{
+    cabinet(8);
+    order(MAX_DUE_IN, 0, 8, cost, cost);
+    while (live-- > 0)
+        led(OFFER);
+}
+
+/* A cut in the tick in which an order with no tick to spare starts: the image passes, and the order is out after its due tick. */
+static void late_unnoticed(void)
+{
+    doing = "one order, no tick to spare";
+    for (unsigned k = 0; k < half_count; k++) {
+        if (soundness(halves[k]) != DISPATCHER_DONE || !clock_up_nothing_started(halves[k]))
+            continue;
+        uint8_t image[IMAGE_SIZE], reply[REPLY_SIZE];
+        memcpy(image, halves[k], IMAGE_SIZE);
+        uint32_t due = get4(image + RECORD(0) + DUE_AT);
+        do
+            if (dispatcher_advance(image, IMAGE_SIZE, reply, REPLY_SIZE) != DISPATCHER_DONE)
+                fail("the half-written image is refused later");
+        while (get4(reply + REPLY_TICKET_AT) == 0);
+        uint32_t out = get4(reply + REPLY_TICK_AT);
+        if (out <= due)
+            fail("the order is out by its due tick, although its start was lost");
+        printf("        kept and advanced, that image brings the order out at tick %lu, due at tick %lu, and no call refuses it\n", (unsigned long)out,
+               (unsigned long)due);
+        return;
+    }
+    fail("no half-written image is sound with the clock up and nothing started");
+}
+
+static void done_calls(void)
+{
+    cabinet(1);
+    order(4, 0, 1, 4, 0);
+    lent("1 station, the first order", OFFER, DISPATCHER_DONE);
+    led(OFFER);
+    lent("1 station, one order starts", ADVANCE, DISPATCHER_DONE);
+    late_unnoticed();
+    ticks(1);
+    lent("1 station, one order goes on", ADVANCE, DISPATCHER_DONE);
+    ticks(2);
+    lent("1 station, the only order is out", ADVANCE, DISPATCHER_DONE);
+    cabinet(2);
+    lent("2 stations, nothing live", ADVANCE, DISPATCHER_DONE);
+    order(20, 0, 2, 2, 3);
+    lent("2 stations, X to an empty cabinet", OFFER, DISPATCHER_DONE);
+    led(OFFER);
+    order_y();
+    lent("2 stations, Y beside X", OFFER, DISPATCHER_DONE);
+    led(OFFER);
+    lent("2 stations, X starts, Y waits", ADVANCE, DISPATCHER_DONE);
+    ticks(1);
+    lent("2 stations, X goes on to station 2", ADVANCE, DISPATCHER_DONE);
+    ticks(1);
+    lent("2 stations, X starts at station 2 and Y at station 1", ADVANCE, DISPATCHER_DONE);
+    ticks(2);
+    lent("2 stations, X is out, Y waits", ADVANCE, DISPATCHER_DONE);
+    cabinet(2);
+    offer_x();
+    offer_x();
+    lent("2 stations, beside two orders like it", OFFER, DISPATCHER_DONE);
+    ticks(2);
+    lent("2 stations, one order starts at each", ADVANCE, DISPATCHER_DONE);
+    full(31, 2);
+    lent("8 stations, beside 31 orders", OFFER, DISPATCHER_DONE);
+    led(OFFER);
+    lent("8 stations, 32 orders, one starts", ADVANCE, DISPATCHER_DONE);
+    ticks(15);
+    lent("8 stations, 32 orders, 8 leave, one of them is out", ADVANCE, DISPATCHER_DONE);
+    asked.stations = 2;
+    lent("over an image with 32 orders", OPEN, DISPATCHER_DONE);
+    cabinet(1);
+    ticks(300);
+    lent("over an image with no orders, clock 300", OPEN, DISPATCHER_DONE);
+    memset(asked.image, 0, IMAGE_SIZE);
+    lent("over zeros", OPEN, DISPATCHER_DONE);
+    memset(asked.image, 0xff, IMAGE_SIZE);
+    lent("over ones", OPEN, DISPATCHER_DONE);
+}
+
+/* Every number but 1, which is about the reply, for each call that gives it; and quotes that are done. */
+static void calls_that_write_nothing(void)
+{
+    cabinet(2);
+    offer_x();
+    order_y();
+    lent("a quote", QUOTE, DISPATCHER_DONE);
+    asked.image_length = IMAGE_SIZE - 1;
+    for (int call = OPEN; call < CALLS; call++)
+        lent("an image too short", call, 2);
+    asked.image_length = IMAGE_SIZE;
+    asked.order_length = BLOCK_SIZE + 1;
+    lent("a long order block", QUOTE, 5);
+    lent("a long order block", OFFER, 5);
+    asked.order_length = BLOCK_SIZE;
+    for (int call = QUOTE; call < ADVANCE; call++) {
+        order(9, 0, 2, 0, 1);
+        lent("cost 0", call, 6);
+        order(MAX_DUE_IN + 1, 0, 2, 1, 1);
+        lent("due-in too large", call, 7);
+        order(6, 5, 2, 1, 2);
+        lent("Y with due-in 6", call, 11);
+    }
+    for (uint32_t stations = 0; stations <= MAX_STATIONS + 1; stations += MAX_STATIONS + 1) {
+        asked.stations = stations;
+        lent("so many stations", OPEN, 14);
+    }
+    asked.image[IMAGE_SIZE - 1] = 1;
+    for (int call = QUOTE; call < CALLS; call++)
+        lent("a damaged image", call, 4);
+    asked.image[VERSION_AT]++;
+    for (int call = QUOTE; call < CALLS; call++)
+        lent("another version", call, 3);
+    cabinet(2);
+    order(6, 0, 2, 2, 3);
+    led(OFFER);
+    order(100, 5, 2, 1, 2);
+    lent("X due in 6, then Y", QUOTE, 12);
+    lent("X due in 6, then Y", OFFER, 12);
+    full(MAX_LIVE, 2);
+    lent("32 orders", QUOTE, 10);
+    lent("32 orders", OFFER, 10);
+    cabinet(1);
+    order(9, 0, 1, 1, 0);
+    put4(asked.image + CLOCK_AT, LAST_TICK);
+    lent("the clock at its last tick", QUOTE, 8);
+    lent("the clock at its last tick", OFFER, 8);
+    lent("the clock at its last tick", ADVANCE, 13);
+    put4(asked.image + CLOCK_AT, 0);
+    put4(asked.image + NEXT_AT, 0);
+    lent("no ticket left", QUOTE, 9);
+    lent("no ticket left", OFFER, 9);
+}
+
+static uint32_t drawn;
+static uint32_t draw(uint32_t below)
+{
+    drawn = drawn * 1664525u + 1013904223u;
+    return (uint32_t)((uint64_t)(drawn >> 8) * below >> 24);
+}
+
+/* Cabinets of 1 to 8 stations, with drawn offers, quotes and advances. */
+static void kept_calls(void)
+{
+    static const int calls[] = {OFFER, OFFER, QUOTE, ADVANCE, ADVANCE, ADVANCE};
+    unsigned long made = 0, done = 0;
+    drawn = SEED;
+    doing = "a call as the header advises";
+    for (int stations = 1; stations <= MAX_STATIONS; stations++) {
+        asked.stations = (uint32_t)stations;
+        for (int k = 0; k < EACH; k++) {
+            int call = k == 0 ? OPEN : k <= 2 ? OFFER : calls[draw(sizeof calls / sizeof *calls)];
+            order(1 + draw(draw(3) == 0 ? 40 : 400), (uint8_t)draw(3), stations, (uint16_t)(1 + draw(4)), (uint16_t)(1 + draw(4)));
+            done += advised(call) == DISPATCHER_DONE;
+            made++;
+        }
+    }
+    printf("seed %d: %lu calls as the header advises, %lu done: at each instruction the image that is kept is the old one or the new one, whole\n", SEED, made,
+           done);
+    if (seen[OPEN][DISPATCHER_DONE] < MAX_STATIONS || seen[OFFER][DISPATCHER_DONE] < 20 || seen[ADVANCE][DISPATCHER_DONE] < 30 || done == made)
+        fail("too few calls are done, or all of them");
+}
+
+static void fact(void)
+{
+    done_calls();
+    doing = "the situations above";
+    for (int call = OFFER; call <= ADVANCE; call++) {
+        if (all_halves[call] == 0)
+            fail("no call leaves a half-written image");
+        if (all_sound[call] == 0)
+            fail("no half-written image is sound");
+    }
+    if (idle_ticks == 0)
+        fail("no half-written image is sound with the clock up and nothing started");
+    printf("half-written images, and how many of them are sound: offer %lu and %lu, advance %lu and %lu, open %lu and %lu\n", all_halves[OFFER],
+           all_sound[OFFER], all_halves[ADVANCE], all_sound[ADVANCE], all_halves[OPEN], all_sound[OPEN]);
+}
+
+static void nothing(void)
+{
+    calls_that_write_nothing();
+    printf("%lu quotes and declined calls, with every number but 1: no instruction writes the image\n", unwritten);
+}
+
+int main(int count, char **words)
+{
+    const char *part = count > 1 ? words[1] : "";
+    fault = count > 2 ? words[2] : "";
+    room = mmap(NULL, sizeof *room, PROT_READ | PROT_WRITE, MAP_SHARED | MAP_ANONYMOUS, -1, 0);
+    if (room == MAP_FAILED)
+        fail("no memory to share");
+    if (part[0] == '\0' || strcmp(part, "fact") == 0)
+        fact();
+    if (part[0] == '\0' || strcmp(part, "nothing") == 0)
+        nothing();
+    if (part[0] == '\0' || strcmp(part, "advice") == 0)
+        kept_calls();
+    if (all_steps == 0)
+        fail("no such part");
+    printf("stepped through %lu instructions\n", all_steps);
+    return 0;
+}
