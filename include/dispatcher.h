@@ -12,6 +12,7 @@
  * All that the dispatcher knows of a cabinet is in its image: DISPATCHER_IMAGE_SIZE bytes (2,128), which the caller keeps and lends to each
  * call. dispatcher_open makes an image. Take its bytes as they are: store them, copy them, and give them back unchanged. Only the calls of this
  * header change them. The bytes need no alignment. An image may be copied to another place or another machine, and the copy is as good as the original.
+ * If it has to outlast a power cut, lend a copy and keep the image itself out of reach of the calls: see A POWER CUT.
  *
  * THE REPLY
  *
@@ -47,7 +48,8 @@
  * Two stations, and an order of costs 2 and 3: its delay sum is 3 + 2 = 5. With a second order of costs 1 and 2 it is 3 + 2 + 2 = 7 for both of them.
  *
  * Every order that is accepted is out by its acceptance tick plus its delay sum, and by its due tick, whatever is offered after it. This holds by the
- * cabinet's clock, for every image that dispatcher_open made and that only calls of this header have changed. It holds by the time of day if
+ * cabinet's clock, for every image that dispatcher_open made, that was not opened again, and that only calls of this header have changed, each of which came
+ * to its end. A second dispatcher_open that is done makes a new cabinet of the image, which knows no orders. By the time of day it holds if
  * dispatcher_advance is called once for each tick, every 0.1 s.
  *
  * The margin of an order is its due tick less the total of its acceptance tick and its delay sum: the ticks that it has to spare, below zero if it would
@@ -66,20 +68,53 @@
  * or a wrong value gets a number and nothing else happens. No call reads or writes outside the buffers that it is lent, and every call
  * returns. With a length of 0 the pointer may be anything, NULL included; it is not used.
  *
+ * A POWER CUT
+ *
+ * A call is not atomic. One that is done writes the image piece by piece. If it is cut off in the middle, by the power, a reset or the end of its process,
+ * the lent bytes may hold neither the image before the call nor the one after it. Later calls refuse some of these half-written images, by 3 or 4. Others
+ * pass as sound, and nobody notices: after an advance that was cut off the clock may be up and nothing started, and an order is out after its due tick.
+ * So if an image has to outlast such a cut, do not lend the one that is kept:
+ *
+ *     1. Copy it, and lend the copy.
+ *     2. If the call returns DISPATCHER_DONE, store the copy whole, so that a cut leaves the old image or the new one. With files: write it to a second file,
+ *        sync that, rename it over the first, and sync the folder. In memory: write it to that one of two places which is not in use; when all of its bytes
+ *        have arrived there, write the one byte that says which place is in use.
+ *     3. Only then tell the customer, or start a motor.
+ *
+ * dispatcher_quote, and a call that is declined, write no byte of the image at any moment.
+ *
  * THE STACK
  *
- * A call needs no more stack than DISPATCHER_OPEN_STACK, DISPATCHER_QUOTE_STACK, DISPATCHER_OFFER_STACK or DISPATCHER_ADVANCE_STACK bytes (below), whatever the
- * buffers hold. They are counted from the caller's stack pointer before the call, so the return address is in them, and the caller's own frame is not. The
- * figures are for the library as the Rattle toolchain builds it for x86-64: the depth that its instructions can reach, rounded up to whole 256 bytes. Each of
- * the four functions of the C library is counted with its return address and 128 bytes. What an interrupt puts on the same stack comes on top, and so does what
- * a dynamic linker takes if it looks for one of these functions on its first use.
+ * A call needs no more stack than DISPATCHER_OPEN_STACK, DISPATCHER_QUOTE_STACK, DISPATCHER_OFFER_STACK or DISPATCHER_ADVANCE_STACK bytes (below), whatever
+ * the buffers hold. They are counted from the caller's stack pointer before the call, so the return address is in them, and the caller's own frame is not.
+ * The figures are for the library as the Rattle toolchain builds it for x86-64: the depth that its instructions can reach, rounded up to whole 256 bytes. A
+ * function that uses bytes below its stack pointer is counted with 128 of them, and each of the four functions of the C library with its return address and
+ * 128 bytes. What an interrupt or a signal takes of the same stack comes on top, and so does what a dynamic linker takes if it looks for one of these
+ * functions on its first use.
+ *
+ * REGISTERS AND INTERRUPTS
+ *
+ * The calls keep to the System V convention and rely on it. C code that calls them need do nothing for it. Start-up code, interrupt entries and task switches
+ * have to see to this:
+ *
+ * - The stack is aligned: before the call instruction the stack pointer is a multiple of 16. The calls read and write the stack 16 bytes at a time, and on a
+ *   stack that is not aligned the processor stops them by a general protection fault. The direction flag is clear.
+ * - SSE2 is switched on before the first call, and an interrupt handler puts back the SSE registers, xmm0 to xmm15, that it or anything it calls has changed,
+ *   like all other registers. A task switch keeps all of them. The calls use them although they work on whole numbers only. The library's own code uses no
+ *   x87, MMX or AVX register; the four functions of the C library use what your C library uses.
+ * - Nobody writes into the red zone, the 128 bytes below the stack pointer, while a call is interrupted: the calls keep values there. A processor that takes
+ *   an interrupt on the same stack writes its frame just there, before the first instruction of the handler. So where no operating system sees to it, give
+ *   interrupts, and exceptions that return, a stack of their own (by the interrupt stack table, or by a change of privilege level), or keep interrupts off
+ *   during a call. Signal handlers on Linux are in order as they are: the system leaves the 128 bytes alone and puts back the registers.
  *
  * WHAT THE CALLER SEES TO
  *
  * - A pointer with a length above 0 points to that many bytes, which may be read. Where the pointer is not to const, they may be written as well.
  * - The buffers of one call do not overlap.
- * - During a call nobody else writes its buffers, and nobody else reads those that it may write. So there is one call at a time for an
- *   image. Calls on different images with different replies may run at the same time, in different threads.
+ * - During a call nobody else writes its buffers, and nobody else reads those that it may write. So there is one call at a time for an image, and an
+ *   interrupt handler makes none with buffers of the call that it has interrupted. Calls on different images with different replies may run at the same time,
+ *   in different threads.
+ * - What A POWER CUT, THE STACK and REGISTERS AND INTERRUPTS ask for.
  */
 #ifndef DISPATCHER_H
 #define DISPATCHER_H
@@ -143,7 +178,7 @@ extern "C" {
 #define DISPATCHER_BAD_STATIONS 14    /* the number of stations is not 1 to DISPATCHER_MAX_STATIONS */
 
 /* Opens a cabinet: writes the image of a cabinet of `stations` stations whose clock stands at tick 0, which has no orders, and whose first
- * ticket will be 1. What the image held before does not matter and is lost.
+ * ticket will be 1. What the image held before does not matter and is lost: orders that were live are forgotten, and tickets are given a second time.
  *
  *     image, image_len   the image to be written
  *     stations           how many stations the cabinet has
@@ -166,7 +201,10 @@ uint32_t dispatcher_open(uint8_t *image, size_t image_len, uint32_t stations, ui
  *     reply, reply_len   the reply to be written
  *
  * Returns the number that dispatcher_offer would return, and the reply is the one that it would give, but for the ticket, which is always 0. What is
- * quoted holds as long as the image is the same. */
+ * quoted holds as long as the image is the same.
+ *
+ * With an order_len of 0 the question is about the image alone: DISPATCHER_BAD_ORDER_LENGTH (5) says that it is a sound one, and 2, 3 or 4 that it is none. So
+ * an image that was stored can be tried before it is used. */
 uint32_t dispatcher_quote(const uint8_t *image, size_t image_len, const uint8_t *order, size_t order_len, uint8_t *reply, size_t reply_len);
 
 /* Offers an order to the cabinet, which accepts it or declines it. An order that is accepted waits at station 1.
@@ -192,7 +230,8 @@ uint32_t dispatcher_quote(const uint8_t *image, size_t image_len, const uint8_t 
  *     DISPATCHER_DELAYS_OTHERS     (12)  the order would be on time, but a live order would be late. The margin is below zero.
  *     DISPATCHER_DONE               (0)  the order is accepted, and the image was changed.
  *
- * An image that dispatcher_open made, that only calls of this header have changed, and that is lent whole, never gets 2, 3 or 4.
+ * An image that dispatcher_open made, that was not opened again, that only calls of this header have changed, each of which came to its end, and that is lent
+ * whole, never gets 2, 3 or 4.
  *
  * After DISPATCHER_DONE the reply holds
  *
@@ -225,14 +264,17 @@ uint32_t dispatcher_offer(uint8_t *image, size_t image_len, const uint8_t *order
  *     DISPATCHER_CLOCK_ENDED       (13)  the clock stands at DISPATCHER_LAST_TICK.
  *     DISPATCHER_DONE               (0)  one tick has passed, and the image was changed.
  *
- * An image that dispatcher_open made, that only calls of this header have changed, and that is lent whole, never gets 2, 3 or 4, nor 13 while an order
- * is live: every order is out by the clock's last tick.
+ * An image that dispatcher_open made, that was not opened again, that only calls of this header have changed, each of which came to its end, and that is lent
+ * whole, never gets 2, 3 or 4, nor 13 while an order is live: every order is out by the clock's last tick.
  *
  * After DISPATCHER_DONE the reply holds
  *
  *     ticket   that of the order that is out with this tick, or 0 if none is;
  *     tick     the clock, as it stands now;
- *     margin   0. */
+ *     margin   0.
+ *
+ * It does not name the orders that start. They follow from the rule above, and stand in the image: firmware/image_view.c finds them by the images before and
+ * after the call. */
 uint32_t dispatcher_advance(uint8_t *image, size_t image_len, uint8_t *reply, size_t reply_len);
 
 #ifdef __cplusplus

@@ -1,18 +1,28 @@
-"""bound.py LIBRARY CALL..: how much stack a call can use at most, for any bytes, by the instructions of the library.
+"""bound.py LISTING CALL..: how much stack a call can use at most, for any bytes, by the instructions of the library.
 
-Reads what `objdump -dr` prints of the archive. The depth of the stack before each instruction of a function follows from the pushes, pops and the additions to
-the stack pointer on the way to it, and the bound of a function is the largest of these depths, or of such a depth with the bound of a function that is called
-there and its return address. A function that keeps something below its stack pointer is counted with 128 bytes there, all that the calling convention allows.
-The functions of the C library that the library uses (memcpy and the like) call nothing and are counted with these 128 bytes, too.
+LISTING is what `objdump -dr --no-show-raw-insn` prints of the archive. The depth of the stack before each instruction of a function follows from the pushes,
+pops and the additions to the stack pointer on the way to it, and the bound of a function is the largest of these depths, or of such a depth with the bound of a
+function that is called there and its return address.
 
-It ends with status 1 where no such bound can be had: a call through a pointer, recursion, a stack pointer set in a way that is not known here, or a function
-that neither the library nor FOREIGN has. Prints a line `bound CALL BYTES`, the return address of the call included, and the way down that needs most.
+The red zone is in it: the calling convention lets a function use 128 bytes below its stack pointer, and one that uses any of them, by way of the stack pointer
+or of the frame pointer, is counted with all 128 there. The functions of the C library that the library uses (memcpy and the like) call nothing and are counted
+with these 128 bytes, too. An index is taken to count upward.
+
+It ends with status 1 where no such bound can be had: a call through a pointer, recursion, a stack pointer set in a way that is not known here, a byte more than
+128 below the stack pointer, or a function that neither the library nor FOREIGN has. Prints a line `bound CALL BYTES`, the return address of the call included,
+and the way down that needs most. Then what the calls ask of their caller beside stack:
+
+    below FUNCTION BYTES        how far below its stack pointer the function goes, for each that does
+    aligned FUNCTION COUNT      how many of its instructions need a stack that is aligned to 16 bytes, for each that has such
+    registers NAME..            the registers that are used beside the general ones
 """
 
 import re
-import subprocess
 import sys
 
+# Loads and stores of 16 bytes that fault where the address is no multiple of 16.
+ALIGNED = re.compile(r"v?mov(aps|apd|dqa|ntps|ntpd|ntdq|ntdqa)$")
+BESIDE = re.compile(r"%((?:xmm|ymm|zmm|mm|k|tmm)\d+|st\b(?:\(\d\))?)")
 FOREIGN = {"memcpy", "memmove", "memset", "memcmp"}
 RED_ZONE = 128
 RETURN_ADDRESS = 8
@@ -28,14 +38,17 @@ class Function:
         self.name = name
         self.code = []  # (address, operation, operands), in order
         self.targets = {}  # address of an instruction -> symbol that it names
+        self.below = 0  # how far below its stack pointer it goes
+        self.aligned = 0  # how many instructions need an aligned stack
 
     def __str__(self):
         return self.name
 
 
-def disassembled(library):
+def disassembled(listing):
     """The functions by name, and by section and offset as relocations name them."""
-    text = subprocess.run(["objdump", "-dr", "--no-show-raw-insn", library], check=True, capture_output=True, text=True).stdout
+    with open(listing) as file:
+        text = file.read()
     functions, places, section, function = {}, {}, None, None
     for line in text.splitlines():
         if match := re.match(r"Disassembly of section (\S+):$", line):
@@ -53,7 +66,7 @@ def disassembled(library):
                 operation, _, operands = operands.partition(" ")
             function.code.append((int(match[1], 16), operation, operands.strip()))
     if not functions:
-        fail(f"{library} has no functions")
+        fail(f"{listing} has no functions")
     return functions, places
 
 
@@ -81,10 +94,12 @@ def moved(function, operation, operands, depth, frame):
         return depth + 8, frame
     if re.match(r"pop", operation):
         return depth - 8, None if operands == "%rbp" else frame
-    if operation == "leave":
+    if operation == "leave" and frame is not None:
         return frame - 8, None
-    if not re.search(r"(?:^|,)%[er]?spl?$", operands) or re.match(r"cmp|test", operation):
-        return depth, depth if (operation, operands) == ("mov", "%rsp,%rbp") else frame
+    if operation != "leave" and (not re.search(r"(?:^|,)%[er]?spl?$", operands) or re.match(r"cmp|test", operation)):
+        if re.search(r"(?:^|,)%[er]?bpl?$", operands) and not re.match(r"cmp|test|bt[lq]?$", operation):
+            frame = depth if (operation, operands) == ("mov", "%rsp,%rbp") else None
+        return depth, frame
     number = re.match(r"\$(-?0x[0-9a-f]+),%rsp$", operands)
     if number and operation in ("sub", "add", "and"):
         value = int(number[1], 16)
@@ -100,7 +115,8 @@ def moved(function, operation, operands, depth, frame):
 
 
 def depths(function):
-    """The depth before each instruction. Follows the jumps; a jump through a table of the function's own goes to instructions that no other way leads to."""
+    """The depth before each instruction, and that of the frame pointer, None where there is none. Follows the jumps; a jump through a table of the function's
+    own goes to instructions that no other way leads to."""
     code, index = function.code, {address: k for k, (address, _, _) in enumerate(function.code)}
     before, todo, tables = {}, [(0, 0, None)], []
     while True:
@@ -109,10 +125,12 @@ def depths(function):
             if k >= len(code):
                 fail(f"{function} runs on past its end")
             if k in before:
-                if before[k] != depth:
+                if before[k][0] != depth:
                     fail(f"{function}: the stack has two depths at {code[k][0]:x}")
-                continue
-            before[k] = depth
+                if before[k][1] in (None, frame):
+                    continue
+                frame = None  # the register holds something else on another way
+            before[k] = depth, frame
             address, operation, operands = code[k]
             if depth < 0:
                 fail(f"{function}: the stack is above its start at {address:x}")
@@ -142,6 +160,23 @@ def depths(function):
         todo.append((missing[0], *tables[0]))
 
 
+def on_stack(operands, frame):
+    return re.search(r"\(%[er]sp[,)]", operands) or frame is not None and re.search(r"\(%[er]bp[,)]", operands)
+
+
+def under(function, address, operands, depth, frame):
+    """How far below the stack pointer the lowest byte is that the operands name, 0 if it is not below."""
+    most = 0
+    for sign, number, register in re.findall(r"(-?)(?:0x([0-9a-f]+))?\(%[er](sp|bp)[,)]", operands):
+        if register == "bp" and frame is None:
+            continue
+        offset = int(number or "0", 16) * (-1 if sign else 1)
+        most = max(most, -offset if register == "sp" else frame - offset - depth)
+    if most > RED_ZONE:
+        fail(f"{function}: at {address:x} a byte {most} below the stack pointer is named, {operands}: no more than {RED_ZONE} may be used there")
+    return most
+
+
 def bound(function, functions, places, known, open_calls):
     """The most bytes below the return address of the function, and the way down."""
     if isinstance(function, str):
@@ -151,13 +186,15 @@ def bound(function, functions, places, known, open_calls):
     if function.name in open_calls:
         fail(f"recursion: {' '.join(open_calls)} {function}")
     own, deepest, way = 0, 0, []
-    for k, depth in depths(function).items():
+    for k, (depth, frame) in depths(function).items():
         address, operation, operands = function.code[k]
         used, below = depth, []
         if operation.startswith("push"):
             used += 8
-        if re.search(r"-0x[0-9a-f]+\(%[er]sp", operands):
+        if red := under(function, address, operands, depth, frame):
             used += RED_ZONE
+            function.below = max(function.below, red)
+        function.aligned += bool(ALIGNED.match(operation) and on_stack(operands, frame))
         own = max(own, used)
         if operation.startswith("call"):
             if operands.startswith("*"):
@@ -185,6 +222,16 @@ def main():
         most, way = bound(functions[call], functions, places, known, [])
         print(f"bound {call} {most + RETURN_ADDRESS}")
         print(f"    {', '.join(way)}")
+    # The calls reach these functions, and no others.
+    reached = [functions[name] for name in sorted(known)]
+    for function in reached:
+        if function.below:
+            print(f"below {function} {function.below}")
+    for function in reached:
+        if function.aligned:
+            print(f"aligned {function} {function.aligned}")
+    beside = {register for function in reached for _, _, operands in function.code for register in BESIDE.findall(operands)}
+    print("registers", *sorted(beside, key=lambda name: (name.rstrip("0123456789"), int(re.sub(r"\D", "", name) or 0))))
 
 
 main()

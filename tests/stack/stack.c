@@ -2,7 +2,8 @@
  *
  * A call is made on a stack of its own, which was painted before: every byte of it has the same value. What is below the lowest byte that has another value
  * after the call was not used. A byte that is written with the value of the paint would not be seen, so each call is made twice, on copies of the same buffers,
- * with two paints. Nothing else runs on that stack, so nothing has to be taken off: what is counted begins with the return address of the call.
+ * with two paints. Nothing else runs on that stack, so nothing has to be taken off: what is counted begins with the return address of the call. It ends with
+ * the lowest byte that was written, also if that is below the stack pointer, in the red zone; functions of tests/stack/shapes.s show that this is so.
  *
  * The calls are those of bench/extremes.h, the lists of the second simulator (bench/lists.h), and wrong lengths. It fails if a number of a call does not occur,
  * or if number, reply or image of a listed call are not those of the simulator. It prints for each call how many were made and the most bytes that one used. */
@@ -10,6 +11,7 @@
 #include "dispatcher.h"
 #include "extremes.h"
 #include "lists.h"
+#include "on_stack.h"
 
 #include <stdio.h>
 #include <stdlib.h>
@@ -21,28 +23,6 @@
 #define STRIP 256 /* bytes that are looked at together */
 
 static uint8_t *stack; /* its lowest byte */
-
-/* Makes a call with six arguments, the stack pointer at `top` before it. The registers that a call leaves alone hold where to go back to. */
-uint32_t call_on_stack(uint8_t *top, const void *call, const uint64_t arguments[6]);
-__asm__(".text\n"
-        ".type call_on_stack, @function\n"
-        "call_on_stack:\n"
-        "    pushq %rbp\n"
-        "    movq %rsp, %rbp\n"
-        "    movq %rdi, %rsp\n"
-        "    movq %rsi, %rax\n"
-        "    movq %rdx, %r10\n"
-        "    movq (%r10), %rdi\n"
-        "    movq 8(%r10), %rsi\n"
-        "    movq 16(%r10), %rdx\n"
-        "    movq 24(%r10), %rcx\n"
-        "    movq 32(%r10), %r8\n"
-        "    movq 40(%r10), %r9\n"
-        "    callq *%rax\n"
-        "    movq %rbp, %rsp\n"
-        "    popq %rbp\n"
-        "    retq\n"
-        ".size call_on_stack, .-call_on_stack\n");
 
 /* One call: buffers and lengths. The order block is that of a quote or an offer. */
 struct arguments {
@@ -57,6 +37,48 @@ static unsigned long made[CALLS], seen[CALLS][NUMBERS];
 static size_t most[CALLS];
 static char deepest[CALLS][200];
 
+static uint8_t *painted_stack(uint8_t paint)
+{
+    memset(stack, paint, STACK);
+    return stack + STACK;
+}
+
+/* How many bytes of the stack have another value than the paint, or are above one that has. */
+static size_t used_of_stack(uint8_t paint)
+{
+    uint8_t painted[STRIP];
+    size_t unused = 0;
+    memset(painted, paint, STRIP);
+    while (unused < STACK && memcmp(stack + unused, painted, STRIP) == 0)
+        unused += STRIP;
+    while (unused < STACK && stack[unused] == paint)
+        unused++;
+    return STACK - unused;
+}
+
+/* Functions of shapes.s, and how many bytes each of them writes on the stack, counted by hand from its return address to the lowest byte. */
+extern void takes_24(void), leaf_below(void), leaf_below_to_the_end(void), pushes_and_below(void), points_below(void), frame_below(void), calls_leaf(void);
+static void measure_shapes(void)
+{
+    static const struct {
+        const char *name;
+        void (*shape)(void);
+        size_t used;
+    } shapes[] = {{"takes_24", takes_24, 32},         {"leaf_below", leaf_below, 16},   {"leaf_below_to_the_end", leaf_below_to_the_end, 136},
+                  {"pushes_and_below", pushes_and_below, 64}, {"points_below", points_below, 72}, {"frame_below", frame_below, 32},
+                  {"calls_leaf", calls_leaf, 32}};
+    static const uint64_t zeros[6];
+    for (size_t k = 0; k < sizeof shapes / sizeof *shapes; k++) {
+        call_on_stack(painted_stack(0xa5), (const void *)(uintptr_t)shapes[k].shape, zeros);
+        size_t used = used_of_stack(0xa5);
+        if (used != shapes[k].used) {
+            printf("%s of shapes.s is measured as %lu bytes, and writes %lu\n", shapes[k].name, (unsigned long)used, (unsigned long)shapes[k].used);
+            exit(1);
+        }
+    }
+    printf("%lu functions of shapes.s are measured to the byte, also below the stack pointer\n", (unsigned long)(sizeof shapes / sizeof *shapes));
+}
+
 /* Makes the call on a stack painted so, and gives how many bytes of it were used. */
 static size_t used_by(struct arguments *a, uint8_t paint, uint32_t *number)
 {
@@ -64,22 +86,14 @@ static size_t used_by(struct arguments *a, uint8_t paint, uint32_t *number)
     const uint64_t open_arguments[6] = {image, a->image.length, a->stations, reply, a->reply.length};
     const uint64_t order_arguments[6] = {image, a->image.length, order, a->order_length, reply, a->reply.length};
     const uint64_t advance_arguments[6] = {image, a->image.length, reply, a->reply.length};
-    uint8_t painted[STRIP];
-    memset(stack, paint, STACK);
-    memset(painted, paint, STRIP);
-    uint8_t *top = stack + STACK;
+    uint8_t *top = painted_stack(paint);
     switch (a->call) {
     case OPEN: *number = call_on_stack(top, (const void *)(uintptr_t)dispatcher_open, open_arguments); break;
     case QUOTE: *number = call_on_stack(top, (const void *)(uintptr_t)dispatcher_quote, order_arguments); break;
     case OFFER: *number = call_on_stack(top, (const void *)(uintptr_t)dispatcher_offer, order_arguments); break;
     default: *number = call_on_stack(top, (const void *)(uintptr_t)dispatcher_advance, advance_arguments);
     }
-    size_t unused = 0;
-    while (unused < STACK && memcmp(stack + unused, painted, STRIP) == 0)
-        unused += STRIP;
-    while (unused < STACK && stack[unused] == paint)
-        unused++;
-    return STACK - unused;
+    return used_of_stack(paint);
 }
 
 /* Makes the call twice; `a` has the buffers as they are after it. Gives the number. */
@@ -193,6 +207,7 @@ int main(int argc, char **argv)
         return 1;
     }
     stack = whole + PAGE;
+    measure_shapes();
     unsigned long sound = each_sound(sound_image), damaged = each_damaged(damaged_image), listed = 0;
     lengths_and_stations();
     for (int k = 1; k < argc; k++)
