@@ -6,7 +6,8 @@
  *
  * fact: In offers, advances and opens that are done the lent image is half-written for a while, and of these images some are sound: no later call
  *     notices. One of an advance has the clock up and nothing started; the order of that cabinet, which had no tick to spare, is then out after its due tick.
- * nothing: Quotes, and calls that are declined, do not write the image at all.
+ * nothing: Quotes, and calls that are declined, do not write the image at all: it is sealed while they have it, so that even a store of the same byte would
+ *     stop them.
  * advice: What include/dispatcher.h says is to be done. The call gets a copy, and the copy is stored whole if the call is done: here into the one of two slots
  *     that is not in use, and then the byte that says which slot is in use is changed. At every instruction of call and store the slot in use holds the image
  *     before the call, or the one after it, whole.
@@ -33,9 +34,10 @@
 #include <unistd.h>
 
 #define NUMBERS 15
+#define PAGE 4096
 #define MOST_STEPS 100000  /* of one call; the longest has some thousands */
 #define MOST_HALVES 4096   /* distinct half-written images of one call */
-#define NOT_TRACED 77      /* exit status of a child that may not be traced */
+#define NOT_TRACED 77      /* exit status of a child that may not be traced, or cannot seal the image */
 #define STACK 16384        /* of a call of the fourth part */
 #define RED_ZONE 128       /* bytes below the stack pointer that a function may use */
 #define FRAME 1024         /* bytes that an interrupt writes */
@@ -54,7 +56,7 @@ struct kept {
 /* What parent and child share. */
 static struct room {
     uint8_t image[IMAGE_SIZE];         /* this is lent, but in the third part: */
-    struct kept kept;                  /* there a copy of what is here */
+    _Alignas(PAGE) struct kept kept;   /* there a copy of what is here */
     _Alignas(16) uint8_t stack[STACK]; /* of the call, in the fourth */
     uint8_t reply[REPLY_SIZE];
     volatile int phase;
@@ -63,7 +65,7 @@ static struct room {
 enum { BEFORE, CALLING, STORING, FINISHED };
 
 /* How the child makes the call. */
-enum way { LENT, ADVISED, ON_STACK, ON_STACK_NOT_ALIGNED };
+enum way { LENT, SEALED, ADVISED, ON_STACK, ON_STACK_NOT_ALIGNED };
 
 /* The call that is stepped through: the image before it, and its other arguments. */
 static struct {
@@ -97,12 +99,14 @@ static uint32_t make_call(int call, uint8_t *image, uint8_t *reply)
     case OFFER: number = dispatcher_offer(image, length, asked.order, asked.order_length, reply, REPLY_SIZE); break;
     default: number = dispatcher_advance(image, length, reply, REPLY_SIZE);
     }
-    /* Both put back what they wrote, so that nobody who looks at the image after the call can see it. */
+    /* Nobody who looks at the image after the call can see these. */
+    volatile uint8_t *byte = image + IMAGE_SIZE - 1;
     if ((is_fault("a-decline-writes") && number != DISPATCHER_DONE && call != QUOTE) || (is_fault("a-quote-writes") && call == QUOTE)) {
-        volatile uint8_t *byte = image + IMAGE_SIZE - 1;
         *byte ^= 1;
         *byte ^= 1;
     }
+    if (is_fault("a-decline-writes-the-same") && number != DISPATCHER_DONE && call == ADVANCE)
+        *byte = *byte;
     return number;
 }
 
@@ -162,6 +166,8 @@ static void child(enum way way)
 {
     if (ptrace(PTRACE_TRACEME, 0, NULL, NULL) < 0 || (is_fault("not-traced") && ptrace(PTRACE_TRACEME, 0, NULL, NULL) < 0))
         _exit(NOT_TRACED);
+    if (way == SEALED && mprotect(room, PAGE, PROT_READ) != 0)
+        _exit(NOT_TRACED);
     raise(SIGSTOP);
     room->phase = CALLING;
     if (way == ADVISED)
@@ -173,11 +179,11 @@ static void child(enum way way)
     else
         room->number = make_call(asked.call, room->image, room->reply);
     room->phase = FINISHED;
-    for (;;)
-        _exit(0);
+    _exit(0);
 }
 
-static pid_t stepped; /* the child */
+static pid_t stepped;  /* the child */
+static int stopped_by; /* the signal that stopped it before its end, 0 if none did */
 static unsigned long all_steps;
 typedef void look(void);
 
@@ -198,11 +204,16 @@ static unsigned long step_through(enum way way, look *after_each)
         ptrace(PTRACE_SETOPTIONS, stepped, NULL, (void *)(uintptr_t)PTRACE_O_EXITKILL) < 0)
         fail(not_permitted);
     unsigned long steps = 0, all = 0;
+    stopped_by = 0;
     while (room->phase != FINISHED) {
         if (ptrace(PTRACE_SINGLESTEP, stepped, NULL, NULL) < 0)
             fail(not_permitted);
-        if (waitpid(stepped, &status, 0) != stepped || !WIFSTOPPED(status) || WSTOPSIG(status) != SIGTRAP || ++all == MOST_STEPS)
+        if (waitpid(stepped, &status, 0) != stepped || !WIFSTOPPED(status) || ++all == MOST_STEPS)
             break;
+        if (WSTOPSIG(status) != SIGTRAP) {
+            stopped_by = WSTOPSIG(status);
+            break;
+        }
         if (room->phase != BEFORE) {
             steps++;
             after_each();
@@ -285,15 +296,16 @@ static void lent(const char *situation, int call, uint32_t number)
     memcpy(last_seen, asked.image, IMAGE_SIZE);
     half_count = 0;
     writes = 0;
-    unsigned long steps = step_through(LENT, look_at_lent);
+    int no_write = number != DISPATCHER_DONE || call == QUOTE;
+    unsigned long steps = step_through(no_write ? SEALED : LENT, look_at_lent);
     seen[call][number]++;
+    if (no_write && (stopped_by == SIGSEGV || writes != 0))
+        fail("a quote, or a call that is declined, writes the image");
     if (steps == 0)
         fail("the call was not stepped through to its end");
     if (room->number != number || memcmp(room->image, after, IMAGE_SIZE) != 0 || memcmp(room->reply, reply, REPLY_SIZE) != 0)
         fail("stepped through, the call gives another number, image or reply");
-    if (number != DISPATCHER_DONE || call == QUOTE) {
-        if (writes != 0)
-            fail("a quote, or a call that is declined, writes the image");
+    if (no_write) {
         unwritten++;
         return;
     }
@@ -330,11 +342,10 @@ static void look_at_kept(void)
 }
 
 /* The call as the header advises. The image that is kept afterwards is the next one that is asked of. */
-static uint32_t advised(int call)
+static uint32_t advised(const char *situation, int call)
 {
     static int slot;
-    static const char *const as_advised[] = {"open, as advised", "quote, as advised", "offer, as advised", "advance, as advised"};
-    doing = as_advised[call];
+    doing = situation;
     asked.call = call;
     asked.image_length = IMAGE_SIZE;
     asked.order_length = BLOCK_SIZE;
@@ -432,54 +443,70 @@ static void late_unnoticed(void)
     fail("no half-written image is sound with the clock up and nothing started");
 }
 
+/* A call that is done, on the lent image or as advised. */
+static int as_advised;
+static void done(const char *situation, int call)
+{
+    if (!as_advised) {
+        lent(situation, call, DISPATCHER_DONE);
+        return;
+    }
+    uint8_t before[IMAGE_SIZE];
+    memcpy(before, asked.image, IMAGE_SIZE);
+    if (advised(situation, call) != DISPATCHER_DONE)
+        fail("the call is declined");
+    memcpy(asked.image, before, IMAGE_SIZE);
+}
+
 static void done_calls(void)
 {
     cabinet(1);
     order(4, 0, 1, 4, 0);
-    lent("1 station, the first order", OFFER, DISPATCHER_DONE);
+    done("1 station, the first order", OFFER);
     led(OFFER);
-    lent("1 station, one order starts", ADVANCE, DISPATCHER_DONE);
-    late_unnoticed();
+    done("1 station, one order starts", ADVANCE);
+    if (!as_advised)
+        late_unnoticed();
     ticks(1);
-    lent("1 station, one order goes on", ADVANCE, DISPATCHER_DONE);
+    done("1 station, one order goes on", ADVANCE);
     ticks(2);
-    lent("1 station, the only order is out", ADVANCE, DISPATCHER_DONE);
+    done("1 station, the only order is out", ADVANCE);
     cabinet(2);
-    lent("2 stations, nothing live", ADVANCE, DISPATCHER_DONE);
+    done("2 stations, nothing live", ADVANCE);
     order(20, 0, 2, 2, 3);
-    lent("2 stations, X to an empty cabinet", OFFER, DISPATCHER_DONE);
+    done("2 stations, X to an empty cabinet", OFFER);
     led(OFFER);
     order_y();
-    lent("2 stations, Y beside X", OFFER, DISPATCHER_DONE);
+    done("2 stations, Y beside X", OFFER);
     led(OFFER);
-    lent("2 stations, X starts, Y waits", ADVANCE, DISPATCHER_DONE);
+    done("2 stations, X starts, Y waits", ADVANCE);
     ticks(1);
-    lent("2 stations, X goes on to station 2", ADVANCE, DISPATCHER_DONE);
+    done("2 stations, X goes on to station 2", ADVANCE);
     ticks(1);
-    lent("2 stations, X starts at station 2 and Y at station 1", ADVANCE, DISPATCHER_DONE);
+    done("2 stations, X starts at station 2 and Y at station 1", ADVANCE);
     ticks(2);
-    lent("2 stations, X is out, Y waits", ADVANCE, DISPATCHER_DONE);
+    done("2 stations, X is out, Y waits", ADVANCE);
     cabinet(2);
     offer_x();
     offer_x();
-    lent("2 stations, beside two orders like it", OFFER, DISPATCHER_DONE);
+    done("2 stations, beside two orders like it", OFFER);
     ticks(2);
-    lent("2 stations, one order starts at each", ADVANCE, DISPATCHER_DONE);
+    done("2 stations, one order starts at each", ADVANCE);
     full(31, 2);
-    lent("8 stations, beside 31 orders", OFFER, DISPATCHER_DONE);
+    done("8 stations, beside 31 orders", OFFER);
     led(OFFER);
-    lent("8 stations, 32 orders, one starts", ADVANCE, DISPATCHER_DONE);
+    done("8 stations, 32 orders, one starts", ADVANCE);
     ticks(15);
-    lent("8 stations, 32 orders, 8 leave, one of them is out", ADVANCE, DISPATCHER_DONE);
+    done("8 stations, 32 orders, 8 leave, one of them is out", ADVANCE);
     asked.stations = 2;
-    lent("over an image with 32 orders", OPEN, DISPATCHER_DONE);
+    done("over an image with 32 orders", OPEN);
     cabinet(1);
     ticks(300);
-    lent("over an image with no orders, clock 300", OPEN, DISPATCHER_DONE);
+    done("over an image with no orders, clock 300", OPEN);
     memset(asked.image, 0, IMAGE_SIZE);
-    lent("over zeros", OPEN, DISPATCHER_DONE);
+    done("over zeros", OPEN);
     memset(asked.image, 0xff, IMAGE_SIZE);
-    lent("over ones", OPEN, DISPATCHER_DONE);
+    done("over ones", OPEN);
 }
 
 /* Every number but 1, which is about the reply, for each call that gives it; and quotes that are done. */
@@ -543,25 +570,27 @@ static uint32_t draw(uint32_t below)
     return (uint32_t)((uint64_t)(drawn >> 8) * below >> 24);
 }
 
-/* Cabinets of 1 to 8 stations, with drawn offers, quotes and advances. */
-static void kept_calls(void)
+/* The same situations, and then cabinets of 1 to 8 stations with drawn offers, quotes and advances. */
+static void advice(void)
 {
     static const int calls[] = {OFFER, OFFER, QUOTE, ADVANCE, ADVANCE, ADVANCE};
-    unsigned long made = 0, done[CALLS] = {0};
+    as_advised = 1;
+    done_calls();
+    unsigned long made = 0, changed[CALLS] = {0};
     drawn = SEED;
     for (int stations = 1; stations <= MAX_STATIONS; stations++) {
         asked.stations = (uint32_t)stations;
         for (int k = 0; k < EACH; k++) {
             int call = k == 0 ? OPEN : k <= 2 ? OFFER : calls[draw(sizeof calls / sizeof *calls)];
             order(1 + draw(draw(3) == 0 ? 40 : 400), (uint8_t)draw(3), stations, (uint16_t)(1 + draw(4)), (uint16_t)(1 + draw(4)));
-            done[call] += advised(call) == DISPATCHER_DONE;
+            changed[call] += advised(names[call], call) == DISPATCHER_DONE && call != QUOTE;
             made++;
         }
     }
-    unsigned long changes = done[OPEN] + done[OFFER] + done[ADVANCE];
-    printf("seed %d: %lu calls as the header advises; %lu opens, %lu offers and %lu advances are done\n", SEED, made, done[OPEN], done[OFFER], done[ADVANCE]);
-    printf("at each instruction the image that is kept is the old one or the new one, whole\n");
-    if (done[OPEN] < MAX_STATIONS || done[OFFER] < 20 || done[ADVANCE] < 20 || made - changes < 10)
+    printf("seed %d: the same calls as the header advises, and %lu drawn ones, of which %lu opens, %lu offers and %lu advances are done\n", SEED, made,
+           changed[OPEN], changed[OFFER], changed[ADVANCE]);
+    printf("at each instruction of these calls and stores the image that is kept is the old one or the new one, whole\n");
+    if (changed[OPEN] < MAX_STATIONS || changed[OFFER] < 20 || changed[ADVANCE] < 20 || made - changed[OPEN] - changed[OFFER] - changed[ADVANCE] < 10)
         fail("too few calls are done, or too few are declined or quotes");
 }
 
@@ -618,7 +647,7 @@ static void handlers(void)
         leaves_enough(call);
         by_red_zone += !goes_right(call, ON_STACK, 0, 0);
         by_registers += !goes_right(call, ON_STACK, RED_ZONE, 1);
-        by_alignment += !goes_right(call, is_fault("aligned") ? ON_STACK : ON_STACK_NOT_ALIGNED, RED_ZONE, 0);
+        by_alignment += !goes_right(call, is_fault("aligned") ? ON_STACK : ON_STACK_NOT_ALIGNED, RED_ZONE, 0) && stopped_by == SIGSEGV;
     }
     printf("of the 4 calls %d go wrong if interrupts write just below the stack pointer, %d if they change the SSE registers, %d on a stack 8 bytes off\n",
            by_red_zone, by_registers, by_alignment);
@@ -696,7 +725,7 @@ int main(int count, char **words)
     if (part[0] == '\0' || strcmp(part, "nothing") == 0)
         nothing();
     if (part[0] == '\0' || strcmp(part, "advice") == 0)
-        kept_calls();
+        advice();
     if (part[0] == '\0' || strcmp(part, "handler") == 0)
         handlers();
     if (all_steps == 0)
