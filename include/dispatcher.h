@@ -76,9 +76,9 @@
  * So if an image has to outlast such a cut, do not lend the one that is kept:
  *
  *     1. Copy it, and lend the copy.
- *     2. If the call returns DISPATCHER_DONE, store the copy whole, so that a cut leaves the old image or the new one. With files: write it to a second file,
- *        sync that, rename it over the first, and sync the folder. In memory: write it to that one of two places which is not in use; when all of its bytes
- *        have arrived there, write the one byte that says which place is in use.
+ *     2. If the call returns DISPATCHER_DONE, store the copy whole, so that a cut leaves the old image or the new one. With files, as firmware/image_store.c
+ *        does: write it to a second file, sync that, rename it over the first, and sync the folder. In memory: write it to that one of two places which is
+ *        not in use; when all of its bytes have arrived there, write the one byte that says which place is in use.
  *     3. Only then tell the customer, or start a motor.
  *
  * dispatcher_quote, and a call that is declined, write no byte of the image at any moment.

@@ -2,7 +2,8 @@
  *
  * It compares with document 01: the numbers of questions 1, 2 and 14 and their order, the bytes of a fresh image ("The image") and of the reply, and what
  * is left alone. These are written out here, with the places of ../layout.h, and taken from nowhere else. Every buffer is filled beforehand with several
- * patterns. The first check that does not hold ends the program with what was called. */
+ * patterns. Then what the header says of a second open, and of a quote without an order block. The first check that does not hold ends the program with what
+ * was called. */
 #include "../lent.h"
 
 #include "../layout.h"
@@ -42,6 +43,46 @@ static void one_call(size_t image_length, uint32_t stations, size_t reply_length
     }
 }
 
+/* The header: "orders that were live are forgotten, and tickets are given a second time". A second open that is declined leaves them. */
+static void second_open(void)
+{
+    uint8_t cabinet[IMAGE_SIZE], fresh[IMAGE_SIZE], before[IMAGE_SIZE], answer[REPLY_SIZE];
+    uint8_t order[BLOCK_SIZE] = {[BLOCK_DUE_IN_AT] = 20, [BLOCK_COSTS_AT] = 2, [BLOCK_COSTS_AT + 2] = 3};
+    strcpy(what, "a second open");
+    expect_number(dispatcher_open(fresh, IMAGE_SIZE, 2, answer, REPLY_SIZE), 0);
+    memcpy(cabinet, fresh, IMAGE_SIZE);
+    expect_number(dispatcher_offer(cabinet, IMAGE_SIZE, order, BLOCK_SIZE, answer, REPLY_SIZE), 0);
+    CHECK(get4(answer + REPLY_TICKET_AT) == 1);
+    expect_number(dispatcher_advance(cabinet, IMAGE_SIZE, answer, REPLY_SIZE), 0);
+    memcpy(before, cabinet, IMAGE_SIZE);
+    expect_number(dispatcher_open(cabinet, IMAGE_SIZE, 0, answer, REPLY_SIZE), 14);
+    CHECK(memcmp(cabinet, before, IMAGE_SIZE) == 0);
+    expect_number(dispatcher_open(cabinet, IMAGE_SIZE, 2, answer, REPLY_SIZE), 0);
+    CHECK(memcmp(cabinet, fresh, IMAGE_SIZE) == 0);
+    /* Delay sum 5, due in 20: it would be out long ago. */
+    for (int tick = 1; tick <= 20; tick++) {
+        expect_number(dispatcher_advance(cabinet, IMAGE_SIZE, answer, REPLY_SIZE), 0);
+        CHECK(get4(answer + REPLY_TICKET_AT) == 0);
+    }
+    expect_number(dispatcher_offer(cabinet, IMAGE_SIZE, order, BLOCK_SIZE, answer, REPLY_SIZE), 0);
+    CHECK(get4(answer + REPLY_TICKET_AT) == 1);
+}
+
+/* The header: a quote with an order_len of 0 says whether an image is sound, and asks nothing else. */
+static void image_alone(void)
+{
+    uint8_t bytes[IMAGE_SIZE + 1] = {0}, answer[REPLY_SIZE];
+    strcpy(what, "a quote without an order block");
+    expect_number(dispatcher_open(bytes, IMAGE_SIZE, 2, answer, REPLY_SIZE), 0);
+    expect_number(dispatcher_quote(bytes, IMAGE_SIZE, NULL, 0, answer, REPLY_SIZE), 5);
+    expect_number(dispatcher_quote(bytes, IMAGE_SIZE - 1, NULL, 0, answer, REPLY_SIZE), 2);
+    expect_number(dispatcher_quote(bytes, IMAGE_SIZE + 1, NULL, 0, answer, REPLY_SIZE), 2);
+    bytes[IMAGE_SIZE - 1] = 1;
+    expect_number(dispatcher_quote(bytes, IMAGE_SIZE, NULL, 0, answer, REPLY_SIZE), 4);
+    bytes[0] ^= 1;
+    expect_number(dispatcher_quote(bytes, IMAGE_SIZE, NULL, 0, answer, REPLY_SIZE), 3);
+}
+
 int main(void)
 {
     /* Right and wrong values of each argument. */
@@ -75,6 +116,8 @@ int main(void)
                     one_call(image_lengths[i], stations[s], reply_lengths[r], number, p, (int)((i + s + r + (size_t)p) % PLACES));
                     seen[number]++;
                 }
+    second_open();
+    image_alone();
     for (int number = 0; number < 15; number++)
         if (seen[number] > 0)
             printf("dispatcher_open: %5lu calls with number %d\n", seen[number], number);
