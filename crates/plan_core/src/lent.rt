@@ -55,13 +55,21 @@ fn pack(number: u32, tasks: [Task; 32]) -> Planned
     }
 }
 
-// Plan over the first records of an array, by value: its callers hold no reference to a struct, and need no walk.
-// Ruled out: 0 where plan declines; the array as it was, though the number is 0.
-pub fn plan_array(tasks: [Task; 32], count: usize, n: u32) -> Planned
-    requires { ⌜ count ≤ maxTasks ⌝ }
-    ensures { λ r. ⌜ (r .number ≡ planNumber n (take count tasks)) × (r .tasks ≡ afterPlan n (take count tasks) ++ drop count tasks) ⌝ }
+// Plan over the first records of an array, which has as many. Ruled out: 0 where plan declines; the array as it was, though the
+// number is 0.
+fn plan_first(tasks: [Task; 32], held: usize, n: u32) -> Planned
+    requires { ⌜ held ≤ maxTasks ⌝ }
+    ensures { λ r. ⌜ (r .number ≡ planNumber n (take held tasks)) × (r .tasks ≡ afterPlan n (take held tasks) ++ drop held tasks) ⌝ }
 {
     let mut list = tasks;
-    let number = plan(&mut list[..count], n);
+    let number = plan(&mut list[..held], n);
     pack(number, list)
+}
+
+// Plan over the first records of an array, by value: its callers hold no reference to a struct, and need no walk. The array has 32
+// records, and a larger count is all of them. Ruled out: the figures of 31 tasks for 32; a record after the first ones changed.
+pub fn plan_array(tasks: [Task; 32], count: usize, n: u32) -> Planned
+    ensures { λ r. ⌜ (r .number ≡ planNumber n (take count tasks)) × (r .tasks ≡ afterPlan n (take count tasks) ++ drop count tasks) ⌝ }
+{
+    plan_first(tasks, super::by_value::held(count), n)
 }

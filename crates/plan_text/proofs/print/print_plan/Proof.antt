@@ -33,11 +33,7 @@ returns c =
     (rw (declined-prints input (number .result) e some) p, omega (arith, p .place, refusal-room (number .result) (rw (number .ensures) (form-small (parse .result .form)))))
 
 plan-array-requires : tie.Need-plan-array-requires
-plan-array-requires c κs =
-    let number = c .before .before .number in
-    let parse = c .before .before .before .parse in
-    let input = c .before .before .before .before .before .args .input .now in
-    accepted input (parse .ensures) (sym (number .ensures) ∙ c .before .if1 .left) .count-high
+plan-array-requires c κs = tt
 
 put-refusal-requires-2 : tie.Need-put-refusal-requires-2
 put-refusal-requires-2 c κs =

@@ -1,18 +1,16 @@
 -- Number and records after the rounds so far.
-use mathlib.Core.Path.{_≡_, refl, sym, _∙_}
+use mathlib.Core.Path.{_≡_, refl}
 use Prim.Native.Nat.{_-_, _≤_}
 use native.Mathlib.Numerals.{add-one}
 use native.Mathlib.Omega.{arith}
 use borrow.Author.Tests.{ne-eqb}
-use Rattle.plan_model.specs.Limits.{maxTasks}
-use Rattle.plan_text.proofs.input.AnswerLaws.{accepted}
 use Rattle.probe.specs.Rounds.{tasksAfter, lastNumber, numberAfter}
 use Rattle.probe.proofs.plans.plan_probe_rounds.Statement.{statement}
 use Rattle.probe.proofs.plans.plan_probe_rounds.Tie as tie
 
 abbrev Inv-loop : tie.InvT-loop
 Inv-loop input rounds parsed number₀ tasks₀ i₀ number tasks i =
-    (i ≤ rounds) × (number ≡ lastNumber i parsed) × (tasks ≡ tasksAfter i parsed) × (parsed .count ≤ maxTasks)
+    (i ≤ rounds) × (number ≡ lastNumber i parsed) × (tasks ≡ tasksAfter i parsed)
 
 abbrev μ-loop : tie.MeasureT-loop
 μ-loop input rounds parsed number₀ tasks₀ i₀ number tasks i = rounds - i
@@ -32,14 +30,10 @@ returns c =
 
 loop-holds : tie.Need-loop-holds Inv-loop μ-loop
 unfolding lastNumber tasksAfter
-loop-holds c =
-    let number = c .before .before .number in
-    let parse = c .before .before .before .parse in
-    let zero = c .before .if1 .left in
-    (omega arith, zero, refl, accepted (c .before .before .before .before .before .args .input .now) (parse .ensures) (sym (number .ensures) ∙ zero) .count-high)
+loop-holds c = (omega arith, c .before .if1 .left, refl)
 
 plan-array-requires : tie.Need-plan-array-requires Inv-loop μ-loop
-plan-array-requires c κs = c .before .loop .inv .3
+plan-array-requires c κs = tt
 
 add-i : tie.Need-add-i Inv-loop μ-loop
 add-i c = omega arith
@@ -52,7 +46,7 @@ unfolding lastNumber tasksAfter
 loop-again c =
     let loop = c .before .before .before .loop in
     let plan = c .before .plan-array in
-    (omega arith, rw (add-one (loop .i), ← loop .inv .2) (plan .ensures .0), rw (add-one (loop .i), ← loop .inv .2) (plan .ensures .1), loop .inv .3)
+    (omega arith, rw (add-one (loop .i), ← loop .inv .2) (plan .ensures .0), rw (add-one (loop .i), ← loop .inv .2) (plan .ensures .1))
 
 returns-2 : tie.Need-returns-2 Inv-loop μ-loop
 unfolding numberAfter
