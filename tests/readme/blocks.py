@@ -1,6 +1,7 @@
-"""README.md's blocks of indented lines, each tried: blocks.py README. A block is a list of commands, an input or an output. Commands are run as they stand,
-but for four: `tests/run` is what runs this; the long comparison, the fuzzer and the benchmark are run in a short form. An output has to be what the command
-before it writes. The blocks and their order are those of the list below: a block that it does not have, or one that is gone, is an error.
+"""README.md's blocks of indented lines, each tried: blocks.py README SIMULATOR. A block is a list of commands, an input or an output. Commands are run as they
+stand, but for four: `tests/run` is what runs this; the long comparison, the fuzzer and the benchmark are run in a short form. An output has to be what the
+command before it writes. The blocks and their order are those of the list below: a block that it does not have, or one that is gone, is an error. The rows of
+the table of mistakes are tried as well, beside the second simulator, and then copies of the page with one wrong row each (mistakes.py).
 
 rt and the firmware example are run in a tree of links, whose target/ begins with the libraries and programs that rt has proved: other tests may use target/
 meanwhile."""
@@ -8,6 +9,12 @@ import os
 import re
 import subprocess
 import sys
+from pathlib import Path
+
+import mistakes
+
+sys.path.insert(0, str(Path(__file__).resolve().parent.parent))
+from level import at_level
 
 ROOM = "target/readme"
 TREE = ROOM + "/tree"
@@ -86,6 +93,14 @@ def main():
     open(f"{TREE}/TABLE", "w").write(table.replace("\n8 8 ", "\n8 7 "))
     if run(call, folder=TREE).splitlines()[-1] != shown:
         sys.exit(f"with deadline 7 plan does not print '{shown}'")
+    trial = mistakes.Trial(TREE, [os.path.abspath("target/bin/plan")], at_level(sys.argv[2], "plan"))
+    try:
+        rows = mistakes.check(page, table, figures, trial)
+    except mistakes.Wrong as wrong:
+        sys.exit(str(wrong))
+    runs = trial.runs
+    print(f"{rows} mistakes, as README.md has them: {runs} tables printed by plan and by the second simulator")
+    seen = mistakes.faults(page, table, figures, trial)
 
     expect(inspect, "rt check inspect", "target/bin/inspect < IMAGE")
     run("rt check inspect", folder=TREE)
@@ -103,7 +118,8 @@ def main():
 
     expect(bench, "bench/run")
     run("bench/run --compare")
-    print(f"compared: {len(given)} blocks of README.md, commands, inputs and outputs, with runs of the commands")
+    print(f"compared: {len(given)} blocks of README.md, commands, inputs and outputs, with runs of the commands; {rows} mistakes of planners in {runs} tables",
+          f"with plan, the second simulator and the cures; {seen} faults, each seen")
 
 
 main()
