@@ -17,8 +17,9 @@ use image::layout::NEXT_AT;
 use image::reader::u32_at;
 use soundness::questions::Answer;
 
-// Questions 1 to 5, which are asked of what is lent; the rest is asked of the state and of the order. An order block that is a
-// byte short passed over does not meet the promise.
+// Questions 1 to 5, which are asked before anything is read from the order block: 6 to 10 are asked of the block and of figures
+// of the image's header, 11 and 12 of the block at the state. An order block that is a byte short passed over does not meet the
+// promise.
 pub fn first_number(image: &[u8], order: &[u8], reply: &[u8]) -> u32
     ensures { λ r. ⌜ r ≡ firstNo (replyQuestion (now (reply .entry)) ∷ imageQuestions (now (image .entry)) ++ (blockLengthQuestion (now (order .entry)) ∷ [])) ⌝ }
 {
@@ -50,8 +51,8 @@ pub fn quoted(image: &[u8], order: &[u8], reply: &mut [u8]) -> u32
     given.number
 }
 
-// An offer once these pass. An order that is accepted is written into the image, where it differs. Neither a decline that writes into the image nor an acceptance that leaves it alone
-// meets the promise.
+// An offer once these pass. An order that is accepted is written into the image, where it differs. Neither a decline that writes
+// into the image nor an acceptance that leaves it alone meets the promise.
 pub fn offered(image: &mut [u8], order: &[u8], reply: &mut [u8]) -> u32
     requires { ⌜ Heard (now image) (now order) (now reply) ⌝ }
     ensures { λ r. ⌜ Gives (offerCall (now (image .entry)) (now (order .entry)) (now (reply .entry))) r (now (image .exit)) (now (reply .exit)) ⌝ }

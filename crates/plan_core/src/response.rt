@@ -6,8 +6,8 @@ ghost use Rattle.plan_model.specs.Limits.{maxPeriod, maxTasks};
 ghost use Rattle.plan_model.specs.Response.{releases as releasesOf, responseFrom};
 ghost use Rattle.plan_core.specs.Response.{Ranged, maxShare, interferenceOf, stepOf};
 
-// How many releases of a task count against the response r. The deadline plays no part in it. Ruled out: the quotient rounded
-// down; one release more where the period divides r.
+// How many releases of a task count against the response r. The deadline plays no part in it until request (ii) lands, whose
+// factor counts it. Ruled out: the quotient rounded down; one release more where the period divides r.
 fn releases(r: u32, deadline: u32, period: u32) -> u32
     requires { ⌜ (r ≤ maxPeriod) × (1 ≤ period) × (period ≤ maxPeriod) ⌝ }
     ensures { λ x. ⌜ (x ≡ releasesOf r deadline period) × (x ≤ maxPeriod) ⌝ }
