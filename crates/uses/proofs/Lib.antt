@@ -4,3 +4,5 @@ pub mod Words
 pub mod DueTimes
 pub mod Progress
 pub mod ByHistory
+pub mod Offers
+pub mod Ticks

@@ -1,14 +1,18 @@
 -- How facts about definite lists are put together from their entries.
 use mathlib.Core.Path.{_≡_, refl, sym, ap, subst, _∙_}
-use mathlib.Core.Bool.{true, false, true≢false}
-use mathlib.Core.Logic.{_⊎_, inl, inr}
+use mathlib.Core.Bool.{Bool, true, false, true≢false}
+use mathlib.Core.Logic.{_⊎_, _≢_, inl, inr}
 use mathlib.Core.List.{List, [], _∷_, List·Memᴰ·not-nil, List·Memᴰ·cases-cons}
 use Prim.Native.Nat.{ℕ, zero, suc, _≤_, _<_}
 use native.Mathlib.Omega.{arith}
+use lib.ListN.{getD}
+use lib.Dec.{ltb, eqb}
 use lib.IntN.{ℤ}
 use lib.Signed.{ltZ}
-use Rattle.model.specs.Lists.{at}
+use borrow.Author.Tests.{ltb-true, eq-eqb}
+use Rattle.model.specs.Lists.{at, all}
 use Rattle.schedule.specs.Valid.{_∈_}
+use Rattle.lists.proofs.Tests.{and-both}
 
 -- An equation between numbers, both of which are the figure: what is left of an equation that a claim gives in a definite case.
 abbrev pub Figure : ℕ → Type 0
@@ -20,6 +24,9 @@ of-one P x p e m = elim (List·Memᴰ·cases-cons m) [ inl i ↦ subst P (sym i)
 
 pub of-two : {A : Type 0} (P : A → Type 0) (x y : A) → P x → P y → (e : A) → e ∈ x ∷ y ∷ [] → P e
 of-two P x y p q e m = elim (List·Memᴰ·cases-cons m) [ inl i ↦ subst P (sym i) p | inr r ↦ of-one P y q e r ]
+
+pub of-three : {A : Type 0} (P : A → Type 0) (x y z : A) → P x → P y → P z → (e : A) → e ∈ x ∷ y ∷ z ∷ [] → P e
+of-three P x y z p q r e m = elim (List·Memᴰ·cases-cons m) [ inl i ↦ subst P (sym i) p | inr n ↦ of-two P y z q r e n ]
 
 -- What holds of each of the first n numbers of a row; and that all after them are 0.
 abbrev pub EachTo : ℕ → (ℕ → Type 0) → List ℕ → Type 0
@@ -55,3 +62,24 @@ least-is margin l m order among attained none-less figure least there has others
       | inl q ↦ attained ∙ q
       | inr q ↦ absurd (true≢false (sym q ∙ ap (λ (z : ℤ). ltZ figure z) (sym attained) ∙ ap (λ (z : ℤ). ltZ z m) (sym has) ∙ none-less least there))
     ]
+
+-- Bytes and answers, as `Figure` has numbers.
+abbrev pub Bytes : List ℕ → Type 0
+Bytes l = _≡_ {A = List ℕ} l l
+
+abbrev pub Yes : Type 0
+Yes = _≡_ {A = Bool} true true
+
+abbrev pub No : Type 0
+No = _≡_ {A = Bool} false false
+
+-- Numbers that are all below a limit, by a computed test.
+pub all-below : (limit : ℕ) (l : List ℕ) → 1 ≤ limit → all (λ x. ltb x limit) l ≡ true → (i : ℕ) → getD l i 0 < limit
+unfolding all
+all-below limit [] some e i = omega (arith, some)
+all-below limit (x ∷ l) some e zero = ltb-true x limit (and-both (ltb x limit) (all (λ y. ltb y limit) l) e .0)
+all-below limit (x ∷ l) some e (suc i) = all-below limit l some (and-both (ltb x limit) (all (λ y. ltb y limit) l) e .1) i
+
+-- Two figures that differ.
+pub differ : (a b : ℕ) → eqb a b ≡ false → a ≢ b
+differ a b e q = true≢false (sym (eq-eqb a b q) ∙ e)

@@ -85,3 +85,13 @@ P dueIn = order dueIn 1 (replicate 8 1)
 unfoldable pub Q : List ℕ
 unfolding order
 Q = order 100 0 (replicate 8 3)
+
+-- N = 2, three orders that wait at station 1: the first has the larger rank, the second the smaller ticket of two with equal ranks. Costs 2 and 1, 2 and 1,
+-- 1 and 1. With no advance, with one, and with two.
+unfoldable pub waitingCalls : ℕ → List Lent
+unfolding order
+waitingCalls count =
+    whole (offering (order 60 1 (2 ∷ 1 ∷ []))) ∷ whole (offering (order 60 0 (2 ∷ 1 ∷ []))) ∷ whole (offering (order 60 0 (1 ∷ 1 ∷ []))) ∷ ticks count
+
+unfoldable pub waiting : ℕ → Run
+waiting count = afterAll (opened 2) (waitingCalls count)
