@@ -28,7 +28,7 @@ use Rattle.uses.proofs.DefiniteLists.{entry}
 use Rattle.uses.proofs.Words.{Figure, of-two, to-station, beyond, least-is}
 
 -- ---- N = 2
-one-allowed : AllAllowed (opened 2) oneCalls
+pub one-allowed : AllAllowed (opened 2) oneCalls
 unfolding oneCalls
 one-allowed = (tt, (tt, tt))
 
@@ -189,7 +189,7 @@ unfolding readRow opened oneCalls one X Y Z started afterCall outcome afterAll
 one-thirteen = λ e. one-in-step .thirteen-alone someReply e (entry one 0) (List·Memᴰ·head refl) refl
 
 -- ---- N = 8
-long-allowed : AllAllowed (opened 8) longCalls
+pub long-allowed : AllAllowed (opened 8) longCalls
 unfolding longCalls
 long-allowed = (tt, (tt, tt))
 

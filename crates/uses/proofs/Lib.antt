@@ -6,3 +6,4 @@ pub mod Progress
 pub mod ByHistory
 pub mod Offers
 pub mod Ticks
+pub mod Advances

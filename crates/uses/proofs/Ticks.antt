@@ -2,6 +2,7 @@
 -- before the first advance, before the second and before the third.
 use mathlib.Core.Path.{_≡_, refl, sym, ap, subst, _∙_}
 use mathlib.Core.Logic.{_≢_}
+use mathlib.Core.Bool.{true}
 use mathlib.Core.List.{List, [], _∷_, _++_, map, List·Memᴰ·head, List·Memᴰ·tail, List·Memᴰ·not-nil}
 use Prim.Native.Nat.{ℕ, _≤_, _<_}
 use native.Mathlib.Omega.{arith}
@@ -62,3 +63,106 @@ second-starts t = go (t .each-starts 1)
         let is = which o (b .waits .live) b in
         let entry = b .entry ∙ ap (λ (x : Order). record { ticket = x .ticket; left = at 0 (x .costs) 1 }) is in
         (o, is, ap (λ (e : Service). e .ticket) entry, ap (λ (e : Service). e .left) entry)
+
+-- What the order that starts was, by its own facts.
+second-waited : (w : Waits (before 0) 1 (orderAt 0 1)) → Figure 1 × (_≢_ {A = ℕ} 0 2)
+unfolding readRow opened waitingCalls waiting one oneCalls X order started afterCall outcome afterAll passTo
+second-waited w = (w .here, w .unserved)
+
+two-rests : Taken 0 → Figure 0 × Figure 0
+unfolding readRow opened waitingCalls waiting one oneCalls X order started afterCall outcome afterAll passTo
+two-rests t = go (t .each-starts 2)
+  where
+    nobody-there : (o : Order) → o ∈ before 0 .orders → o .station ≡ 2 → ⊥
+    nobody-there = of-three (λ (o : Order). o .station ≡ 2 → ⊥) (orderAt 0 0) (orderAt 0 1) (orderAt 0 2) (differ 1 2 refl) (differ 1 2 refl) (differ 1 2 refl)
+
+    go : AtStart (before 0) 2 → Figure 0 × Figure 0
+    go (AtStart.rests free nobody stays) = (ap (λ (e : Service). e .ticket) free, ap (λ (e : Service). e .ticket) stays)
+    go (AtStart.goes-on busy same) = absurd (let w : 1 ≤ 0 = busy .some-left in let z : ⊥ = omega (arith, w) in z)
+    go (AtStart.begins free o b) = absurd (nobody-there o (b .waits .live) (b .waits .here))
+
+-- 2 and 3: one of its two ticks is to go, and it stays; station 2 stays idle; the first order, which waits, stays where it is.
+second-goes-on : Taken 0 → (1 ≤ 1) × Figure 2 × Figure 1 × ((o : Order) × (o .ticket ≡ 2) × (o ∈ after 0 .orders))
+unfolding readRow opened waitingCalls waiting one oneCalls X order started afterCall outcome afterAll passTo
+second-goes-on t = go (t .each-passes .stations 1)
+  where
+    go : AtPass (ticked 0) (starts (before 0)) 1 → (1 ≤ 1) × Figure 2 × Figure 1 × ((o : Order) × (o .ticket ≡ 2) × (o ∈ after 0 .orders))
+    go (AtPass.rests free stays) = absurd (let w : _≡_ {A = ℕ} 2 0 = ap (λ (e : Service). e .ticket) free in let z : ⊥ = omega (arith, w) in z)
+    go (AtPass.goes-on w some same there) = (some, ap (λ (e : Service). e .ticket) same, ap (λ (e : Service). e .left) same, (w .order, sym (w .served), there))
+    go (AtPass.ends w none free onward gone) = absurd (let w : _≡_ {A = ℕ} 1 0 = none in let z : ⊥ = omega (arith, w) in z)
+
+two-stays-idle : Taken 0 → Figure 0 × Figure 0
+unfolding readRow opened waitingCalls waiting one oneCalls X order started afterCall outcome afterAll passTo
+two-stays-idle t = go (t .each-passes .stations 2)
+  where
+    go : AtPass (ticked 0) (starts (before 0)) 2 → Figure 0 × Figure 0
+    go (AtPass.rests free stays) = (ap (λ (e : Service). e .ticket) free, ap (λ (e : Service). e .ticket) stays)
+    go (AtPass.goes-on w some same there) = absurd (let w : 1 ≤ 0 = w .some-left in let z : ⊥ = omega (arith, w) in z)
+    go (AtPass.ends w none free onward gone) = absurd (let w : 1 ≤ 0 = w .some-left in let z : ⊥ = omega (arith, w) in z)
+
+first-stays : Taken 0 → orderAt 0 0 ∈ after 0 .orders
+unfolding readRow opened waitingCalls waiting one oneCalls X order started afterCall outcome afterAll passTo
+first-stays t = t .each-passes .waiting 1 (orderAt 0 0) (record { live = List·Memᴰ·head refl; here = refl; unserved = differ 2 1 refl })
+
+-- The state after is that of the image after, with the clock at 1. Nobody is out.
+after-first : Taken 0 → Figure 1 × Figure 1 × Figure 1 × Figure 0
+unfolding readRow opened waitingCalls waiting one oneCalls X order started afterCall outcome afterAll passTo
+after-first t = (ap (λ (s : State). s .clock) (t .is-advance), ap (λ (s : State). s .clock) (t .says-after), t .clock-after, t .ticket-given)
+
+-- ---- before the second advance: the order in service goes on, has nothing to go then, and waits at station 2
+second-served : Taken 1 → Figure 2 × Figure 1 × (1 ≤ 1) × ((o : Order) × (o ∈ before 1 .orders) × (o .ticket ≡ 2) × (o .station ≡ 1) × (1 ≤ at 0 (o .costs) 1))
+unfolding readRow opened waitingCalls waiting one oneCalls X order started afterCall outcome afterAll passTo
+second-served t = go (t .each-starts 1)
+  where
+    go : AtStart (before 1) 1 → Figure 2 × Figure 1 × (1 ≤ 1) × ((o : Order) × (o ∈ before 1 .orders) × (o .ticket ≡ 2) × (o .station ≡ 1) × (1 ≤ at 0 (o .costs) 1))
+    go (AtStart.rests free nobody stays) = absurd (let w : _≡_ {A = ℕ} 2 0 = ap (λ (e : Service). e .ticket) free in let z : ⊥ = omega (arith, w) in z)
+    go (AtStart.begins free o b) = absurd (let w : _≡_ {A = ℕ} 2 0 = ap (λ (e : Service). e .ticket) free in let z : ⊥ = omega (arith, w) in z)
+    go (AtStart.goes-on busy same) = (ap (λ (e : Service). e .ticket) same, ap (λ (e : Service). e .left) same, busy .some-left, (busy .order, busy .live, sym (busy .served), busy .here, busy .at-most))
+
+second-moves : Taken 1 → Figure 0 × Figure 0 × ((o : Order) × (o .ticket ≡ 2) × (moveTo 2 o ∈ after 1 .orders))
+unfolding readRow opened waitingCalls waiting one oneCalls X order started afterCall outcome afterAll passTo
+second-moves t = go (t .each-passes .stations 1)
+  where
+    go : AtPass (ticked 1) (starts (before 1)) 1 → Figure 0 × Figure 0 × ((o : Order) × (o .ticket ≡ 2) × (moveTo 2 o ∈ after 1 .orders))
+    go (AtPass.rests free stays) = absurd (let w : _≡_ {A = ℕ} 2 0 = ap (λ (e : Service). e .ticket) free in let z : ⊥ = omega (arith, w) in z)
+    go (AtPass.goes-on w some same there) = absurd (let w : 1 ≤ 0 = some in let z : ⊥ = omega (arith, w) in z)
+    go (AtPass.ends w none free onward gone) = (none, ap (λ (e : Service). e .ticket) free, (w .order, sym (w .served), onward (omega arith)))
+
+-- ---- before the third advance: at station 2 the second order ends, and it is out; the first is live still
+second-gone : Taken 2 → Figure 0 × Figure 0 × ((o : Order) → o ∈ after 2 .orders → o .ticket ≡ 2 → ⊥)
+unfolding readRow opened waitingCalls waiting one oneCalls X order started afterCall outcome afterAll passTo
+second-gone t = go (t .each-passes .stations 2)
+  where
+    go : AtPass (ticked 2) (starts (before 2)) 2 → Figure 0 × Figure 0 × ((o : Order) → o ∈ after 2 .orders → o .ticket ≡ 2 → ⊥)
+    go (AtPass.rests free stays) = absurd (let w : _≡_ {A = ℕ} 2 0 = ap (λ (e : Service). e .ticket) free in let z : ⊥ = omega (arith, w) in z)
+    go (AtPass.goes-on w some same there) = absurd (let w : 1 ≤ 0 = some in let z : ⊥ = omega (arith, w) in z)
+    go (AtPass.ends w none free onward gone) = (none, ap (λ (e : Service). e .ticket) free, λ o m is. gone refl o m (is ∙ w .served))
+
+second-out : Taken 2 → ((o : Order) × (o ∈ before 2 .orders) × (o .ticket ≡ 2)) × Figure 2 × (_≢_ {A = ℕ} 1 2) × ((o : Order) × (o ∈ advance (before 2) .orders) × (o .ticket ≡ 1)) × Figure 2
+unfolding readRow opened waitingCalls waiting one oneCalls X order started afterCall outcome afterAll passTo
+second-out t =
+    let out = t .ticket-out in
+    let was = out .was-live (leb-true _ _ (refl {a = true})) in
+    let still = out .others-live (orderAt 2 0) (List·Memᴰ·head refl) (differ 1 2 refl) in
+    ((was .order, was .live, was .named), out .at-last (orderAt 2 1) (List·Memᴰ·tail (List·Memᴰ·head refl)) refl, out .is-out (leb-true _ _ (refl {a = true})) (getD (advance (before 2) .orders) 0 (orderAt 2 0)) (List·Memᴰ·head refl), (still .order, still .live, still .named), t .ticket-given)
+
+-- ---- all of it of every image of bytes, and after every list, at 2 stations
+waiting-bytes : (Below byteLimit (waiting 0 .image)) × (Below byteLimit (waiting 1 .image)) × (Below byteLimit (waiting 2 .image))
+unfolding readRow opened waitingCalls waiting one oneCalls X order started afterCall outcome afterAll passTo
+waiting-bytes =
+    (all-below 256 (waiting 0 .image) (omega arith) (refl {a = true}), all-below 256 (waiting 1 .image) (omega arith) (refl {a = true}), all-below 256 (waiting 2 .image) (omega arith) (refl {a = true}))
+
+of-images : Taken 0 × Taken 1 × Taken 2
+unfolding readRow opened waitingCalls waiting one oneCalls X order started afterCall outcome afterAll passTo
+of-images =
+    (claims .ticks (waiting 0 .image) (waiting-bytes .0) someReply refl, claims .ticks (waiting 1 .image) (waiting-bytes .1) someReply refl, claims .ticks (waiting 2 .image) (waiting-bytes .2) someReply refl)
+
+waiting-allowed : (AllAllowed (opened 2) (waitingCalls 0)) × (AllAllowed (opened 2) (waitingCalls 1)) × (AllAllowed (opened 2) (waitingCalls 2))
+unfolding waitingCalls
+waiting-allowed = ((tt, (tt, (tt, tt))), (tt, (tt, (tt, (tt, tt)))), (tt, (tt, (tt, (tt, (tt, tt))))))
+
+after-lists : Taken 0 × Taken 1 × Taken 2
+unfolding readRow opened waitingCalls waiting one oneCalls X order started afterCall outcome afterAll passTo
+after-lists =
+    let of = claims .ticks-over-runs 2 (omega arith) (omega arith) someImage refl someReply refl in
+    (of (waitingCalls 0) (waiting-allowed .0) someReply refl, of (waitingCalls 1) (waiting-allowed .1) someReply refl, of (waitingCalls 2) (waiting-allowed .2) someReply refl)

@@ -2,7 +2,9 @@
 use mathlib.Core.List.{List, [], _∷_, _++_}
 use Prim.Native.Nat.{ℕ, _-_}
 use lib.ListN.{replicate}
+use Rattle.model.specs.State.{fresh}
 use Rattle.model.specs.Layout.{imageSize, replySize}
+use Rattle.model.specs.Image.{encode}
 use Rattle.model.specs.Calls.{Call, opening, quoting, offering, advancing}
 use Rattle.model.specs.Runs.{Lent, Run, started, afterAll}
 use Rattle.model.specs.Table.{lent}
@@ -95,3 +97,8 @@ waitingCalls count =
 
 unfoldable pub waiting : ℕ → Run
 waiting count = afterAll (opened 2) (waitingCalls count)
+
+-- An image with the clock at its end, and no order.
+unfoldable pub endImage : List ℕ
+unfolding fresh encode
+endImage = encode (record { n = 2; clock = 4000000000; next = 1; services = fresh 2 .services; orders = [] })
