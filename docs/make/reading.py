@@ -21,11 +21,11 @@ from pathlib import Path
 
 ROOT = Path(sys.argv[1] if len(sys.argv) > 1 else ".")
 HERE = Path(__file__).resolve().parent
-CRATE = "model"
-STATEMENT = ("Demand3", "Demand3")
-PROOF = ("demand-3", "crates/claims/proofs/Demand3.antt")
 PROVED_IN = "claims"
-CRATES_OF_DEFINITIONS = [CRATE, "plan_model"]
+STATEMENT = ("Claims", "Claims")
+DEMAND = "due-times"  # the field that the opening tells at length; it has every other in its table
+PROOF = ("claims", "crates/claims/proofs/Claims.antt")
+CRATES_OF_DEFINITIONS = ["model", "text", "schedule", "plan_model", "image_laws", "call_laws", "claims"]
 WIDTH = 120
 
 # The sections of document 01, by a letter, and those whose sentences are all accounted for. A request of document 02 goes by its number. A passage is
@@ -43,12 +43,13 @@ SECTIONS = {
     "F": "Which language form to use",
     "X": "Traps in this trade",
 }
-ACCOUNTED = "CTDIQR"
+ACCOUNTED = "CTDIQRSEWX"
 OWN = "No sentence of document 01: a word that it takes for granted."
+FURTHER = "Beyond the sentences of the papers: a theorem of our own about what they define, or a part of one."
 
-# File, title, and in the file's order: title, passages of the papers, definitions.
+# File, title, and in the file's order: title, passages of the papers, definitions. The passages below FURTHER are those that come closest.
 FILES = [
-    ("specs/Limits.antt", "The figures", [
+    ("model/specs/Limits.antt", "The figures", [
         ("Stations", ["C: A cabinet has N stations"], ["maxStations"]),
         ("Costs", ["C: An order has, for each station"], ["maxCost"]),
         ("Due-in", ["C: Its due-in is"], ["maxDueIn", "defaultDueIn"]),
@@ -56,18 +57,18 @@ FILES = [
         ("The last tick", ["I~ clock at most 4,000,000,000", "Q: Due tick at most", "Q: Clock below"], ["lastTick"]),
         ("The last ticket", ["I~ next ticket (4), 0 when none is left"], ["lastTicket"]),
     ]),
-    ("src/lib.rt", "A station's entry, an order's record, an order block", [
+    ("model/src/lib.rt", "A station's entry, an order's record, an order block", [
         ("The entry of a station", ["I: Then eight station entries"], ["Service"]),
         ("The record of a live order", ["I: Then 32 records", "I: A record holds"], ["Order"]),
         ("An order as it is offered", ["I: An order block is", "C~ for each station, a cost in ticks (1 to 6,000) and a rank"], ["Block"]),
     ]),
-    ("specs/State.antt", "The state", [
+    ("model/specs/State.antt", "The state", [
         ("What an image says", ["I~ then N, live count, and a zero byte; clock (4 bytes); next ticket (4), 0 when none is left",
                                 "I~ Then eight station entries", "I~ Then 32 records of 64 bytes, live ones first in ticket order"], ["State"]),
         ("Idle", ["I~ each station idle (0, 0)"], ["idle"]),
         ("A fresh cabinet", ["Q~ open gives zeros and a fresh image (clock 0, next ticket 1)", "C: Tickets run from 1"], ["fresh"]),
     ]),
-    ("specs/Lists.antt", "Words about lists and tests", [
+    ("model/specs/Lists.antt", "Words about lists and tests", [
         ("Ranges and zero", ["C~ N stations, 1 to 8", "I~ zero bytes and unused records zero"], ["within", "isZero"]),
         ("The entry of a station, and a part of a list", ["C~ for each station, a cost in ticks (1 to 6,000) and a rank", "I~ Bytes 0 to 2"], ["at", "part"]),
         ("Added up, the largest, the larger of two", ["D~ the largest station cost of each member, added up", "D~ the largest cost any member has there"],
@@ -78,7 +79,7 @@ FILES = [
         ("Station by station", ["C~ for each station"], ["numbered", "allStations"]),
         ("So many in a row", OWN, ["upward"]),
     ]),
-    ("specs/Tick.antt", "The course of one tick", [
+    ("model/specs/Tick.antt", "The course of one tick", [
         ("What it sees of a live order", ["C: An order has, for each station"], ["View"]),
         ("Who goes before whom", ["T: Each idle station", "C~ a rank (0 to 255, the smaller goes first)"], ["precedes"]),
         ("Who goes first at a station", ["T~ the one with the smallest rank there"], ["better", "first"]),
@@ -92,20 +93,20 @@ FILES = [
         ("Step 3 on a state", ["T: An order with nothing to go"], ["leave"]),
         ("The three steps in order", ["T: Advance does this", "Q~ advance gives the ticket out or 0"], ["advance", "advanceOut"]),
     ]),
-    ("specs/DelayBound.antt", "The delay sum", [
+    ("model/specs/DelayBound.antt", "The delay sum", [
         ("The members' largest costs, added up", ["D~ Delay sum of T = the largest station cost of each member, added up"], ["sumOf"]),
         ("The largest cost at each station", ["D~ the largest cost any member has there"], ["maximaOf"]),
-        ("The delay sum", ["D~ plus, for each station before N, the largest cost any member has there", "D: With N = 1"], ["delayBound"]),
+        ("The delay sum", ["D~ plus, for each station before N, the largest cost any member has there", "D: With N = 1", "X: Adding the last"], ["delayBound"]),
         ("On time", ["D: T is on time"], ["boundTick", "onTime"]),
         ("Margin", ["D: Margin is"], ["margin"]),
     ]),
-    ("specs/Bytes.antt", "Numbers as bytes", [
+    ("model/specs/Bytes.antt", "Numbers as bytes", [
         ("Reading a number", ["C: Numbers are decimal"], ["byte", "half", "word"]),
         ("Reading eight numbers", ["I~ eight ranks (1 each); eight costs (2 each)"], ["eightBytes", "eightHalves"]),
         ("Writing a number", ["C: Numbers are decimal"], ["oneByte", "twoBytes", "fourBytes"]),
         ("Writing a signed number", ["Q~ margin (signed), 4 bytes each"], ["bits32"]),
     ]),
-    ("specs/Layout.antt", "The places of the fields", [
+    ("model/specs/Layout.antt", "The places of the fields", [
         ("The header of the image", ["I: 2,128 bytes", "I: Bytes 0 to 2"],
          ["imageSize", "mark", "version", "versionAt", "stationCountAt", "liveCountAt", "headerZeroAt", "clockAt", "nextAt"]),
         ("A station's entry", ["I: Then eight station entries"], ["servicesAt", "serviceSize", "servedAt", "leftAt", "serviceZeroAt"]),
@@ -114,9 +115,9 @@ FILES = [
         ("The bytes of one entry, of one record", ["I~ Then eight station entries of 8 bytes", "I~ Then 32 records of 64 bytes"],
          ["servicePart", "recordPart"]),
         ("An order block", ["I: An order block is"], ["blockSize", "blockDueInAt", "blockRanksAt", "blockCostsAt"]),
-        ("The reply", ["Q: The reply holds"], ["replySize", "replyTicketAt", "replyTickAt"]),
+        ("The reply", ["Q: The reply holds"], ["replySize", "replyTicketAt", "replyTickAt", "replyMarginAt"]),
     ]),
-    ("specs/Image.antt", "The image", [
+    ("model/specs/Image.antt", "The image", [
         ("Mark and version", ["Q: Mark and version", "I~ Bytes 0 to 2 are the mark `WMC`; 3 to 4 the version, 1"], ["marked"]),
         ("The live count", ["I~ then N, live count"], ["liveCount"]),
         ("A station's entry and its bytes", ["I: Then eight station entries"], ["serviceOf", "serviceBytes"]),
@@ -127,7 +128,7 @@ FILES = [
         ("What an image says", ["I: Bytes 0 to 2", "I~ live ones first in ticket order, the rest all zero"], ["decode"]),
         ("The image that says it", ["I: Bytes 0 to 2", "I~ live ones first in ticket order, the rest all zero"], ["encode"]),
     ]),
-    ("specs/Soundness.antt", "Soundness", [
+    ("model/specs/Soundness.antt", "Soundness", [
         ("Number of stations", ["I~ N 1 to 8"], ["stationCountInRange"]),
         ("Live count", ["I~ live at most 32"], ["liveCountInRange"]),
         ("Clock", ["I~ clock at most 4,000,000,000"], ["clockInRange"]),
@@ -145,12 +146,12 @@ FILES = [
          ["serves", "servicesInOrder"]),
         ("The clauses in turn", ["I: Sound means", "Q: Image sound?"], ["clauses", "sound"]),
     ]),
-    ("specs/Questions.antt", "Questions and reply", [
+    ("model/specs/Questions.antt", "Questions and reply", [
         ("A question, and the first \"no\"", ["Q: Is the lent reply"], ["Question", "firstNo"]),
         ("What the reply holds", ["Q: The reply holds"], ["Answer", "replyBytes"]),
         ("Zeros", ["Q: Declined", "Q~ open gives zeros"], ["zeros"]),
     ]),
-    ("specs/Admission.antt", "An offer", [
+    ("model/specs/Admission.antt", "An offer", [
         ("An order block read", ["I: An order block is"], ["blockOf"]),
         ("The due tick", ["C: Its due-in is", "C: Due tick ="], ["dueOf"]),
         ("The newcomer's record", ["D: Offer tries the sums", "D: For an accepted order T", "R: It waits at station 1"], ["arrival"]),
@@ -165,7 +166,7 @@ FILES = [
         ("What offer gives", ["Q: Done: open gives", "Q: Declined"], ["offerAnswer"]),
         ("What quote gives", ["D: Quote gives"], ["quoteAnswer"]),
     ]),
-    ("specs/Calls.antt", "The calls", [
+    ("model/specs/Calls.antt", "The calls", [
         ("What a call returns and leaves", ["C: The cabinet's C firmware"], ["Result"]),
         ("The number, the image, the reply", ["Q: The reply holds", "Q: After 1", "Q: Every decline"], ["result"]),
         ("Questions 1 to 4", ["Q: Is the lent reply", "Q: Is the image", "Q: Mark and version", "Q: Image sound?"],
@@ -179,13 +180,13 @@ FILES = [
          ["advanceNumber", "advanceAnswer", "advanceCall"]),
         ("A call by its kind", ["R~ which call it is, its arguments other than image and reply"], ["Call", "perform"]),
     ]),
-    ("specs/History.antt", "The run book", [
+    ("model/specs/History.antt", "The run book", [
         ("An accepted order", ["R~ every order accepted so far", "R~ with the new clock as its out tick"], ["Entry"]),
         ("The book", ["R: It holds N"], ["History"]),
         ("Its beginning", ["R: It starts with"], ["begun"]),
         ("Live", ["R: In the book, live means"], ["isNone", "live", "liveOrders"]),
         ("The due tick", ["C: Due tick ="], ["entryDue"]),
-        ("The company", ["D: For an accepted order T", "D: Members that are out"], ["members"]),
+        ("The company", ["D: For an accepted order T", "D: Members that are out", "X: Dropping an order"], ["members"]),
         ("Acceptance tick + delay sum", ["D: Delay sum of T", "R~ acceptance tick + delay sum"], ["entryBound"]),
         ("Offer returning 0", ["R: Offer returning 0", "R: Its ticket is", "R: It waits at station 1", "R: Its company is"], ["entering", "joins", "acceptIn"]),
         ("Advance returning 0", ["R: Advance returning 0"], ["entryView", "startsIn", "tickIn"]),
@@ -194,25 +195,267 @@ FILES = [
         ("The book is fed", ["R: The book is fed", "R: Quote, and any call"], ["feed"]),
         ("Who is out at a tick", ["R~ the ticket out in the book, or 0"], ["isAt", "outAt"]),
     ]),
-    ("specs/Demand3.antt", "Demand 3", [
+    ("model/specs/Runs.antt", "Lists of calls", [
         ("A call of the list, with its reply", ["R: Offers and quotes get"], ["Lent"]),
         ("The image and the book beside it", ["R~ gets the image as the call before left it", "R~ The book is fed the calls in turn"], ["Run"]),
         ("The beginning", ["R: A list starts"], ["started"]),
         ("Call after call", ["R: Each call gets", "R: The book is fed"], ["outcome", "afterCall", "afterAll"]),
         ("Which lists", ["R: Demand 3 speaks of"], ["Allowed", "AllAllowed"]),
+    ]),
+    ("claims/specs/Demand3.antt", "Demand 3", [
         ("Each accepted order", ["R: After every such list"], ["InTime"]),
         ("Each reply", ["R: The reply of each done offer"], ["Agrees", "AllAgree"]),
         ("The claim about one list", ["R: This is a single claim", "R~ After every such list, for each accepted order"], ["Kept"]),
-        ("The claim", ["R: A list starts", "R: Demand 3 speaks of"], ["Demand3"]),
+        ("The claim", ["R: A list starts", "R: Demand 3 speaks of", "W: Demand 3 is over runs"], ["Demand3"]),
+    ]),
+    ("schedule/specs/Valid.antt", "Words for orders and stations", [
+        ("One of a list", OWN, ["_∈_"]),
+        ("The entry of a station", ["R~ for each station the ticket in service and the ticks to go"], ["serving"]),
+        ("Cost and rank at a station", ["C: An order has, for each station"], ["cost", "rank"]),
+        ("Waiting", ["T~ Each idle station with waiting orders"], ["Waits"]),
+        ("Busy", ["I~ serving a live order that is at it, with ticks to go from 1 to its cost there"], ["Busy"]),
+        ("Rising", ["I~ live tickets at least 1, rising"], ["RisingBy", "Rising"]),
+    ]),
+    ("claims/specs/Progress.antt", "Progress", [
+        ("Advances that are done", ["R~ an advance made next with a reply of 16 bytes returns 0"], ["advances", "AllWhole", "AllDone"]),
+        ("Out by the due tick", ["R~ if it is out, its out tick is at most acceptance tick + delay sum, and at most its due tick"], ["Out"]),
+        ("Every live order comes out", [FURTHER, "W~ running the first advance and idling in the rest (demands 2 and 3)"], ["Progressed", "Progress"]),
+    ]),
+    ("model/specs/StateOf.antt", "The state that the book stands for", [
+        ("The record of an accepted order", ["I~ ticket, acceptance tick, due tick, sum of the company's largest costs (4 each)",
+                                             "I~ the company's largest cost at each station (2 each)"], ["recordOver", "recordOf"]),
+        ("The state", ["R: It holds N", "R: In the book, live means", "I~ Then 32 records of 64 bytes, live ones first in ticket order", "C: Tickets run from 1"],
+         ["stateOf"]),
+    ]),
+    ("image_laws/specs/Iff.antt", "Exactly when", [
+        ("Each from the other", OWN, ["_⇔_"]),
+    ]),
+    ("claims/specs/ByHistory.antt", "Quotes and offers by the book", [
+        ("With the newcomer", ["D: Offer tries the sums"], ["tried", "arriving"]),
+        ("On time, late, margin", ["D: T is on time", "D: Margin is"], ["OnTime", "Late", "marginOf"]),
+        ("Questions before 11 that a list can fail", ["Q: Is the lent reply", "Q: Order block 28 bytes?", "Q: Costs of stations", "Q: Due-in 0 to",
+                                                      "Q: Due tick at most", "Q: Fewer than 32"], ["Considered"]),
+        ("The smallest margin", ["Q~ the smallest margin over newcomer and live orders", "Q~ margin (signed), 4 bytes each"], ["Smallest"]),
+        ("Number, tick and margin", ["Q: Newcomer on time?", "Q: Every live order still",
+                                     "Q~ offer gives the ticket, acceptance tick + delay sum, and the smallest margin over newcomer and live orders",
+                                     "Q~ margin is 0 save for 11 and 12, which give that same smallest margin",
+                                     "W~ declining every offer (demand 2, 11 and 12 only when late); one fixed tick for every order (demand 2's sum)",
+                                     "W~ an invented tick or margin (the delay sum)"], ["Judged"]),
+        ("The image in step with the book", [FURTHER, "W~ with company taken from the history of calls and not from stored sums"], ["InStep", "ByHistory"]),
+    ]),
+    ("image_laws/specs/InRange.antt", "Figures that fit their fields", [
+        ("Fields of one byte, of two and of four", ["I~ eight ranks (1 each); eight costs (2 each)", "I~ clock (4 bytes)"], ["byteLimit", "halfLimit", "wordLimit"]),
+        ("Bytes", ["C~ with numbers and byte buffers"], ["Below"]),
+        ("A row of eight", ["I~ eight costs (2 each); the company's largest cost at each station (2 each)"], ["Row"]),
+        ("A station's entry", ["I~ ticket in service or 0 (4), ticks to go (2)"], ["ServiceInRange"]),
+        ("A record", ["I~ ticket, acceptance tick, due tick, sum of the company's largest costs (4 each); station (1); zero (3); eight ranks (1 each); eight"
+                      " costs (2 each); the company's largest cost at each station (2 each)"], ["OrderInRange"]),
+        ("A state", ["I~ then N, live count, and a zero byte; clock (4 bytes); next ticket (4)", "I~ Then eight station entries", "I~ Then 32 records"],
+         ["InRange"]),
+    ]),
+    ("image_laws/specs/Usable.antt", "Questions 1 to 4, as facts", [
+        ("What is lent is usable", ["Q: Is the lent reply", "Q: Is the image", "Q: Mark and version", "Q: Image sound?"], ["Usable"]),
+    ]),
+    ("call_laws/specs/Considered.antt", "Questions 5 to 10, as facts", [
+        ("Questions 6 to 10", ["Q: Costs of stations", "Q: Due-in 0 to", "Q: Due tick at most", "Q: A ticket left?", "Q: Fewer than 32"], ["Fitting"]),
+        ("Questions 1 to 10", ["Q: Order block 28 bytes?", "Q~ quote and offer 1 to 12"], ["Considered"]),
+    ]),
+    ("call_laws/specs/OfferExact.antt", "Offers on any image", [
+        ("The bound, on time, late, margin", ["D: T is on time", "D: Margin is"], ["boundTickOf", "InTime", "Late", "marginOf"]),
+        ("The smallest margin", ["Q~ the smallest margin over newcomer and live orders"], ["Smallest"]),
+        ("The margin given", ["Q~ margin (signed), 4 bytes each", "Q~ margin is 0 save for 11 and 12, which give that same smallest margin"], ["MarginGiven"]),
+        ("Number, tick and margin", ["Q: Newcomer on time?", "Q: Every live order still", "X: Trying only the newcomer",
+                                     "Q~ offer gives the ticket, acceptance tick + delay sum, and the smallest margin over newcomer and live orders",
+                                     "W~ one fixed tick for every order (demand 2's sum)", "W~ an invented tick or margin (the delay sum)"], ["ExactAt"]),
+        ("Of everything that is lent", ["W~ declining every offer (demand 2, 11 and 12 only when late)"], ["Exact"]),
+    ]),
+    ("schedule/specs/Starts.antt", "Starts, as facts", [
+        ("An order starts", ["T: Each idle station", "R~ a start sets the ticks to go to the cost there"], ["Started"]),
+        ("At a station", ["T: Each idle station", "X: Stopping a sheet", "X: Skipping a start"], ["AtStart"]),
+    ]),
+    ("schedule/specs/Pass.antt", "Ticks, as facts", [
+        ("The tick, and who leaves", ["T: The clock goes up by one", "T: An order with nothing to go"], ["passTo"]),
+        ("At a station", ["T~ each order in service has one tick less to go", "T: An order with nothing to go"], ["AtPass"]),
+        ("At every station", ["T: An order with nothing to go", "W~ an advance that moves the clock and no sheet (demand 2's starts)"], ["Passes"]),
+    ]),
+    ("schedule/specs/Out.antt", "The ticket out, as facts", [
+        ("An order with a ticket is live", ["I~ 32 records of 64 bytes, live ones first in ticket order"], ["Has"]),
+        ("The one that is out", ["Q~ advance gives the ticket out or 0", "T: At most one order is out"], ["OutAsAsked"]),
+    ]),
+    ("schedule/specs/Course.antt", "The way of one order", [
+        ("In service nowhere; at one station alone", ["R~ for each station the ticket in service and the ticks to go"], ["Nowhere", "OnlyAt"]),
+        ("Tick by tick", ["C~ visited 1, 2, .. N by every order", "C~ for each station, a cost in ticks", "R~ a start sets the ticks to go to the cost there",
+                          "T~ each order in service has one tick less to go", "T: An order with nothing to go"], ["Course"]),
+    ]),
+    ("claims/specs/Images.antt", "Advances on any image, and over lists", [
+        ("Of every image, and after every list", ["C~ with numbers and byte buffers", "R: Demand 3 speaks of", "R: A list starts"],
+         ["OfEveryImage", "AfterEveryList"]),
+        ("A done advance", ["T: Advance does this", "T: Each idle station", "T: The clock goes up by one", "T: An order with nothing to go",
+                            "Q~ advance gives the ticket out or 0, the new clock, and 0",
+                            "W~ an advance that moves the clock and no sheet (demand 2's starts); running the first advance and idling in the rest"],
+         ["TickAsAsked", "TicksAsAsked"]),
+        ("Start after acceptance", ["T: An order accepted at tick 5"], ["StartsOnceAccepted"]),
+        ("Start after the station before", ["T: One that leaves station 1"], ["StartsOnceMoved"]),
+        ("When an order may start first", ["T: An order accepted at tick 5", "T: One that leaves station 1"], ["TimelyAt", "Timely"]),
+        ("The stations during each tick of a list", ["T: Each idle station", "R: Each call gets"], ["duringCall", "duringCalls"]),
+        ("Which lists", ["R: Demand 3 speaks of"], ["NotReopened"]),
+        ("Served in full", [FURTHER, "C~ visited 1, 2, .. N by every order", "W~ an advance that moves the clock and no sheet (demand 2's starts)"],
+         ["ServedInFull"]),
+    ]),
+    ("call_laws/specs/AdvanceExact.antt", "What an advance returns and gives", [
+        ("Number and reply", ["Q~ advance 1 to 4, then 13", "Q: Clock below", "Q~ advance gives the ticket out or 0, the new clock, and 0"],
+         ["ExactAt", "AdvanceNumbers"]),
+    ]),
+    ("claims/specs/Declines.antt", "Declines", [
+        ("What a decline leaves", ["Q: Declined", "Q: After 1", "Q: Every decline"], ["DeclinedAt", "Declines"]),
+    ]),
+    ("image_laws/specs/SoundFacts.antt", "Soundness, as facts", [
+        ("The company's largest cost at a station", ["I~ the company's largest cost at each station (2 each)"], ["maximum"]),
+        ("A live order", ["I~ live tickets at least 1", "I~ acceptance at most the clock; due tick 1 to 60,000 after acceptance and at most 4,000,000,000; station"
+                          " 1 to N; costs in range; each maximum at least the own cost and at most 6,000; the sum at least the own largest cost; the order"
+                          " on time; fields beyond N zero"], ["SoundOrder"]),
+        ("A state", ["I~ N 1 to 8; live at most 32; clock at most 4,000,000,000",
+                     "I~ live tickets at least 1, rising, and below the next ticket where that is not 0",
+                     "I~ fields beyond N zero; each station idle (0, 0) or serving a live order that is at it, with ticks to go from 1 to its cost there"],
+         ["SoundState"]),
+        ("The facts, and figures that fit", ["I: Bytes 0 to 2", "I: Sound means"], ["SoundInRange"]),
+    ]),
+    ("image_laws/specs/Fresh.antt", "A fresh image is sound", [
+        ("For each N", [FURTHER, "Q~ open gives zeros and a fresh image (clock 0, next ticket 1)", "Q: Image sound?"], ["FreshSoundAt", "FreshSound"]),
+    ]),
+    ("image_laws/specs/SoundImage.antt", "An image that the next call can use", [
+        ("Whole, marked and sound", ["Q: Is the image", "Q: Mark and version", "Q: Image sound?"], ["SoundImage"]),
+    ]),
+    ("call_laws/specs/OfferKept.antt", "What an offer and a quote leave", [
+        ("A done offer", FURTHER, ["OfferKeepsSound"]),
+        ("A quote", ["D: Quote gives"], ["QuotedAt", "QuoteGivesOffer"]),
+    ]),
+    ("call_laws/specs/AdvanceKept.antt", "What an advance leaves", [
+        ("A done advance", FURTHER, ["AdvanceKeepsSound"]),
+    ]),
+    ("plan_model/src/lib.rt", "A task record", [
+        ("The verdict", ["S: On time means", "S~ `on-time` or `late`"], ["Verdict"]),
+        ("A task", ["S: Plan reads a table", "S: The standing table is", "S: Plan fills base"], ["Task"]),
+    ]),
+    ("plan_model/specs/Limits.antt", "Plan's figures", [
+        ("Periods", ["S~ period 1 to 60,000"], ["maxPeriod"]),
+        ("Tasks", ["S~ a count outside 1 to 32 by 17", "S~ one to 32 task lines"], ["maxTasks"]),
+        ("Input", ["S~ input at most 16,384 bytes"], ["maxInput"]),
+        ("Numbers of a line", ["S~ `period deadline cost1 .. costN`"], ["maxNumbers"]),
+        ("Digits", ["S~ unsigned decimals of 1 to 9 digits"], ["maxDigits"]),
+    ]),
+    ("plan_model/specs/Base.antt", "The base of a task", [
+        ("The largest cost of a task", ["S~ its largest cost", "S: Costs beyond N"], ["largestCost"]),
+        ("The largest cost at each station before N", ["S~ for each station before N the largest cost of any task"], ["stageCosts", "stageMaxima"]),
+        ("The base", ["S: Base of task t"], ["base"]),
+    ]),
+    ("plan_model/specs/Response.antt", "The response of a task", [
+        ("Rounded up", ["S~ (R / period of i, rounded up)"], ["roundedUp", "releases"]),
+        ("The share of another task", ["S~ (R / period of i, rounded up) × largest cost of i"], ["share"]),
+        ("The other tasks", ["S~ over the other tasks i"], ["others"]),
+        ("What replaces R", ["S~ replace R by base + the sum, over the other tasks i, of (R / period of i, rounded up) × largest cost of i"], ["next"]),
+        ("Where the repetition ends", ["S: The repetition ends"], ["past", "ends"]),
+        ("The R reached", ["S: Response: begin with", "S: The repetition ends"], ["settled", "responseFrom"]),
+        ("The verdict", ["S: On time means"], ["verdictWhere", "verdictOf"]),
+    ]),
+    ("plan_model/specs/Plan.antt", "Plan over task records", [
+        ("Figures in range", ["S~ period 1 to 60,000, deadline 1 to the period, costs 1 to 6,000", "S: Costs beyond N"], ["inRange"]),
+        ("The number", ["S: It declines N by 14", "S~ returns its number, 0 when done"], ["planQuestions", "planNumber"]),
+        ("The response of one task", ["S: Response: begin with"], ["response"]),
+        ("The figures filled in", ["S: Plan fills base"], ["withFigures", "figured", "planned"]),
+        ("The list as plan leaves it", ["S~ a decline leaves the list alone"], ["leftWhere", "afterPlan"]),
+    ]),
+    ("plan_model/specs/Meaning.antt", "What the figures mean", [
+        ("The sequence of R", ["S: Response: begin with"], ["sequence"]),
+        ("The first R that ends it", ["S: The repetition ends", "W~ a plan that writes `late` before repeating (the sequence of R)"], ["FirstEnd"]),
+        ("On time", [FURTHER, "S: On time means"], ["LeastFixed"]),
+        ("Late", ["S~ at the first R not below the deadline"], ["FirstPast"]),
+        ("The largest response and the largest base", FURTHER, ["maxResponse", "maxBase"]),
+        ("Of every task of a done plan", ["S: The repetition ends", "S: On time means"], ["Meant", "Meaning"]),
+        ("What is asked of a task", ["S: Plan reads a table"], ["Asked", "asked"]),
+        ("What plan leaves", ["S~ a decline leaves the list alone", "S: Plan fills base"], ["Leaves"]),
+        ("Costs that are not read", ["S: Costs beyond N"], ["upTo", "NotRead"]),
+    ]),
+    ("text/specs/Ascii.antt", "Words as bytes", [
+        ("A text", OWN, ["ascii"]),
+    ]),
+    ("text/specs/Decimal.antt", "Numbers in decimal", [
+        ("Digits", ["C~ Numbers are decimal"], ["digit", "digits", "decimal"]),
+    ]),
+    ("plan_model/specs/Parts.antt", "Lines and words of a text", [
+        ("Line feed and space", ["S~ single spaces, each line ended by a line feed"], ["lineFeed", "space"]),
+        ("The parts between", ["S~ single spaces, each line ended by a line feed"], ["placed", "parts", "lastOf"]),
+    ]),
+    ("plan_model/specs/Number.antt", "A number of the input", [
+        ("Its form", ["S~ unsigned decimals of 1 to 9 digits without leading zeros (a lone 0 has the form)"], ["isDigit", "isNumber"]),
+        ("Its value", ["C~ Numbers are decimal"], ["appended", "valueOf"]),
+    ]),
+    ("plan_model/specs/Input.antt", "The plan program's input", [
+        ("Lines and words", ["S~ single spaces, each line ended by a line feed"], ["linesOf", "lines", "words"]),
+        ("The first line", ["S~ first line N", "S~ 16 first line a number 1 to 8"], ["isStations", "stationsOf"]),
+        ("The task lines", ["S~ 17 one to 32 task lines of that form", "S: The plan program reads"], ["isNumbers", "isTaskLine", "isTaskLines"]),
+        ("The tasks", ["S~ then one line a task, `period deadline cost1 .. costN`"], ["taskOf", "taskAt", "tasksOf"]),
+        ("Questions 15 to 18", ["S: Its questions"], ["formQuestions", "inputQuestions", "inputNumber"]),
+    ]),
+    ("plan_model/specs/Output.antt", "The plan program's output", [
+        ("The first line", ["S~ task base response verdict"], ["heading"]),
+        ("A task's line", ["S: Fields: task number"], ["verdictWord", "verdictEnd", "field", "taskLine"]),
+        ("The table", ["S: For `2`", "S: task base response verdict"], ["taskLines", "table"]),
+        ("A decline", ["S: A decline prints"], ["refusal"]),
+        ("What is printed", ["S: The plan program reads", "S: A decline prints"], ["printedWhere", "planOutput"]),
+    ]),
+    ("plan_model/specs/Cases.antt", "Plan's worked tables", [
+        ("An input and what is printed", ["S~ it prints, whole"], ["Printing", "isPrinted"]),
+        ("The paper's two tables", ["S: For `2`", "S: task base response verdict", "S: With deadline 7", "E: P: both plan tables"],
+         ["firstTable", "secondTable", "paperTables"]),
+        ("The example of document 004", ["S: This is the published figure"], ["chapterSix"]),
+        ("The largest response", FURTHER, ["lateLines", "largestResponse"]),
+    ]),
+    ("model/specs/Table.antt", "Tables of worked cases", [
+        ("What a row says", ["W~ The cases marked P form one proved table"], ["Row"]),
+        ("Other bytes from a place on", OWN, ["overwritten"]),
+        ("What a call may change", ["Q: Every decline", "D~ changes nothing in the image"], ["mayChange"]),
+        ("The out tick, or 0", ["R~ with the new clock as its out tick"], ["outTick"]),
+        ("What a call gave", ["Q: The reply holds", "Q: Every decline"], ["gave"]),
+        ("The run after a call", ["R: A list starts", "R: Each call gets", "R: The book is fed"], ["opened", "onward"]),
+        ("A reply buffer", ["R~ the reply buffer of each call has any length and holds any bytes"], ["lent"]),
+        ("A row tried", ["W~ The cases marked P form one proved table", "R~ Each call gets the image as the call before left it"], ["Read", "readRow"]),
+        ("Row after row", ["E: Marked P are proved", "R~ Each call gets the image as the call before left it"], ["Held", "HoldFrom", "Hold"]),
+    ]),
+    ("model/specs/Cases.antt", "The paper's worked cases", [
+        ("An order block", ["I: An order block is"], ["halves", "block", "order"]),
+        ("X and Y", ["E: N = 2 unless named"], ["X", "Y"]),
+        ("A margin below zero", ["D~ a whole number that may be below zero"], ["minus"]),
+        ("Rows for offers and advances", ["Q~ offer gives the ticket, acceptance tick + delay sum, and the smallest margin over newcomer and live orders",
+                                          "Q: Declined", "Q~ advance gives the ticket out or 0, the new clock, and 0"], ["accepts", "late", "advances"]),
+        ("The first two", ["E: P: X, due-in 20", "E: P: then Y at 0", "E: X is out at 5"], ["firstTwo"]),
+        ("A late newcomer", ["E: P: Y with due-in 6"], ["lateArrival"]),
+        ("A live order that would be late", ["E: P: X with due-in 6"], ["lateLive"]),
+        ("Ranks the other way round", ["E: P: as the first two"], ["ranksReversed"]),
+        ("No start at a busy station", ["E: P: X at 0 with"], ["startsAtTwo"]),
+        ("One station", ["E: P: N = 1"], ["oneStation"]),
+        ("Eight stations", ["E: P: N = 8"], ["eightStations"]),
+        ("All of them", ["E: Marked P are proved"], ["paperCases"]),
+    ]),
+    ("claims/specs/WorkedCases.antt", "The table of worked cases", [
+        ("A case, and that it holds", ["W~ The cases marked P form one proved table"], ["Case", "CaseHolds", "EachHolds"]),
+        ("The table", ["E: Marked P are proved", "E: P: both plan tables", "W~ The cases marked P form one proved table"], ["paperTable", "WorkedCases"]),
+    ]),
+    ("claims/specs/Claims.antt", "All claims", [
+        ("What a stranger may rely on", ["W: These cheats fail", "W: Demand 3 is over runs", "W~ The cases marked P form one proved table"], ["Claims"]),
     ]),
 ]
 
 # What stands at the head of a file's section: the passage whole, before it is taken part by part.
 WHOLE = {
-    "specs/Tick.antt": ["T: Advance does this", "T: Each idle station", "T: The clock goes up by one", "T: An order with nothing to go"],
-    "specs/DelayBound.antt": ["D: For an accepted order T", "D: Members that are out", "D: Delay sum of T", "D: With N = 1", "D: T is on time", "D: Margin is"],
-    "specs/Soundness.antt": ["I: Sound means"],
-    "specs/History.antt": ["R: The book is fed", "R: It holds N", "R: It starts with"],
+    "model/specs/Tick.antt": ["T: Advance does this", "T: Each idle station", "T: The clock goes up by one", "T: An order with nothing to go"],
+    "model/specs/DelayBound.antt": ["D: For an accepted order T", "D: Members that are out", "D: Delay sum of T", "D: With N = 1", "D: T is on time", "D: Margin is"],
+    "model/specs/Soundness.antt": ["I: Sound means"],
+    "image_laws/specs/SoundFacts.antt": ["I: Sound means"],
+    "plan_model/specs/Plan.antt": ["S: Plan reads a table", "S: The standing table is", "S: Plan fills base", "S: It declines N by 14", "S: Costs beyond N"],
+    "plan_model/specs/Response.antt": ["S: Response: begin with", "S: The repetition ends", "S: On time means"],
+    "plan_model/specs/Input.antt": ["S: The plan program reads", "S: Its questions"],
+    "model/specs/History.antt": ["R: The book is fed", "R: It holds N", "R: It starts with"],
 }
 
 # What requests overrule: a passage of document 01 or of an earlier request, and the passage of the request that holds in its place, such as
@@ -220,18 +463,21 @@ WHOLE = {
 OVERRULED = [
 ]
 
-# Sentences of these sections, and of requests, that no definition of demand 3 renders, and where they are kept. Names with a file are checked.
+# Sentences of these sections, and of requests, that no definition of `Claims` renders, and where they are kept. Names with a file, files and entries of
+# docs/DECISIONS.md are looked up.
 ELSEWHERE = [
     ("C: Inside the work", "the calls are in crates/dispatcher, plan in crates/plan_core, its program in crates/plan"),
     ("C: Outside it", "outside"),
-    ("C: The model is that of", "docs/DECISIONS.md, landing 1, where the sources differ"),
-    ("C: Source document 000", "docs/DECISIONS.md, landing 1, where the sources differ"),
-    ("C: Where the sources", "docs/DECISIONS.md, landing 1, where the sources differ"),
+    ("C: The model is that of", "docs/DECISIONS.md, D41 to D47, has where it differs"),
+    ("C: Source document 000", "docs/DECISIONS.md, D41 and D45"),
+    ("C: Where the sources", "docs/DECISIONS.md, D41 to D47, has how it decides"),
     ("C: Documents 001 to 003", "nothing is taken from them"),
     ("C: A tick is 0.1 s.", "the definitions count ticks; include/dispatcher.h asks the firmware for an advance in each 0.1 s"),
-    ("T: An order accepted at tick 5", "theorem `StartsOnceAccepted` (crates/schedule/specs/Timing.antt)"),
-    ("T: One that leaves station 1", "theorem `StartsOnceMoved` (crates/schedule/specs/Timing.antt)"),
-    ("T: At most one order is out", "theorem `OneOutPerTick` (crates/delay/specs/DueTimes.antt)"),
+    ("E: N = 1, 32 orders", "not marked P; computed all the same, `thirtyTwoLive` (crates/model/specs/Cases.antt), and made by the program crates/cases"),
+    ("W: Every operation open", "the contracts, which stand in the section after the definitions; docs/CLAIMS.md, point by point"),
+    ("W: It is due whole", "`demand-3` (crates/claims/proofs/Demand3.antt), of all four calls"),
+    ("X: The core carries", "a form of the code: crates/image/src/pipeline.rt"),
+    ("X: After it, a station's", "a form of the code: crates/tick/src/entries.rt"),
 ]
 
 # What the libraries' names mean. Each is looked up by the module that the `use` line names.
@@ -239,7 +485,8 @@ LIBRARY = {
     "the language": {
         "Type": "`Type 0` is the type of types: a definition of type `Type 0` is a statement or a kind of data",
         "Unit": "`Unit {0}`, the statement that says nothing",
-        "×": "`P × Q`: P and Q",
+        "⊥": "the statement that never holds: `P → ⊥` says that P does not hold",
+        "×": "`P × Q`: P and Q; `(x : A) × P`: there is an x in A of which P holds",
     },
     "Prim.Native.Nat": {
         "ℕ": "the numbers 0, 1, 2, .. without end",
@@ -261,6 +508,7 @@ LIBRARY = {
         "cond": "`cond b x y` is x where b is true, and y where it is false",
         "_&&_": "both",
         "_||_": "one of the two at least",
+        "not": "the other answer",
     },
     "mathlib.Core.List": {
         "List": "`List A`, lists of any length with entries in A",
@@ -268,6 +516,8 @@ LIBRARY = {
         "_∷_": "`x ∷ l` is x and then the entries of l",
         "_++_": "`l ++ m` is the entries of l and then those of m",
         "map": "`map f l` is f of each entry of l, in order",
+        "foldl": "`foldl f x l` begins with x, and for each entry y of l in turn takes `f x y` in place of x",
+        "dropLast": "the list without its last entry; of the empty list, the empty list",
         "List·Memᴰ": "`List·Memᴰ x l`: x is one of the entries of l",
     },
     "mathlib.Core.Option": {
@@ -276,7 +526,10 @@ LIBRARY = {
         "some": "`some x` is the value x",
     },
     "mathlib.Core.Path": {"_≡_": "equal, as a statement"},
-    "mathlib.Core.Logic": {"_≢_": "not equal, as a statement"},
+    "mathlib.Core.Logic": {
+        "_≢_": "not equal, as a statement",
+        "_⊎_": "`P ⊎ Q`: P or Q, or both, as a statement",
+    },
     "lib.ListN": {
         "length": "the number of entries",
         "getD": "`getD l i d` is the entry of l at place i, counted from 0, and d where there is none",
@@ -295,17 +548,28 @@ LIBRARY = {
         "negsuc": "`negsuc n` is the whole number -(n + 1)",
         "_-ℤ_": "difference of whole numbers",
     },
-    "lib.Signed": {"ltZ": "the test below, of whole numbers"},
+    "lib.Signed": {
+        "ltZ": "the test below, of whole numbers",
+        "mag": "`mag (pos n)` and `mag (negsuc n)` are n: `mag z < 2147483648` says that z is a signed number of 32 bits",
+    },
+    "Prim.Native.Char": {"code": "the code of a character, as a number"},
+    "Prim.Native.String": {
+        "String": "texts, written between quotation marks; `\\n` is a line feed",
+        "[]": "the empty text, named `none` where it is used",
+        "_∷_": "a character and then a text, named `_then_` where it is used",
+    },
 }
 
-# The calls in code: functions whose contracts cite the definitions, and the record that their contracts are.
+# The contracts in code: open functions whose contracts cite the definitions, and the records that their contracts are.
 CODE = [
-    ("crates/dispatcher/src/open.rt", "dispatcher_open", "openCall"),
-    ("crates/dispatcher/src/offer.rt", "dispatcher_quote", "quoteCall"),
-    ("crates/dispatcher/src/offer.rt", "dispatcher_offer", "offerCall"),
-    ("crates/dispatcher/src/advance.rt", "dispatcher_advance", "advanceCall"),
+    ("crates/dispatcher/src/open.rt", "dispatcher_open", ["openCall"]),
+    ("crates/dispatcher/src/offer.rt", "dispatcher_quote", ["quoteCall"]),
+    ("crates/dispatcher/src/offer.rt", "dispatcher_offer", ["offerCall"]),
+    ("crates/dispatcher/src/advance.rt", "dispatcher_advance", ["advanceCall"]),
+    ("crates/plan_core/src/lent.rt", "plan", ["planNumber", "afterPlan"]),
+    ("crates/plan_text/src/print.rt", "print_plan", ["planOutput"]),
 ]
-GIVES = ("crates/dispatcher/specs/Gives.antt", "Gives")
+GIVES = [("crates/dispatcher/specs/Gives.antt", ["Gives"]), ("crates/lists/specs/Stored.antt", ["Stored", "Put"])]
 
 KEYWORDS = {"let", "in", "record", "where", "λ", "→", "=", ":", "pub", "abbrev", "unfoldable", "unfolding", "data", ".", "infix", "infixl", "infixr"}
 TOKEN = re.compile(r"«[^»]*»|\.«?[^\s(){};,.]+»?|[^\s(){};,]+|[(){};,]")
@@ -327,7 +591,7 @@ def read(path):
 
 
 class Definition:
-    """A declaration of a specs file, or a struct of code: its comment and its code, line by line."""
+    """A declaration of a specs file, or a struct or enum of code: its comment and its code, line by line."""
 
     def __init__(self, module, name, kind, comment, code):
         self.module, self.name, self.kind, self.comment, self.code = module, name, kind, comment, code
@@ -338,6 +602,8 @@ class Definition:
             self.fields = [f.strip("«»") for f in re.findall(r"^  pub (\S+) :", "\n".join(code), re.M)]
         elif kind == "data":
             self.constructors = re.findall(r"^  (\S+) :", "\n".join(code), re.M)
+        elif kind == "enum":
+            self.constructors = re.findall(r"^    (\w+),$", "\n".join(code), re.M)
 
 
 class Module:
@@ -354,11 +620,11 @@ class Module:
                 paragraphs.append([])
         waiting = []
         for place, lines in enumerate(p for p in paragraphs if p):
-            uses = [x for x in lines if x.startswith("use ")]
+            uses = [x for x in lines if x.startswith(("use ", "pub use "))]
             for line in uses:
-                self.use(line)
+                self.use(line.removeprefix("pub "))
             comment = [x for x in lines if x.startswith("--")]
-            code = [x for x in lines if not x.startswith(("--", "use "))]
+            code = [x for x in lines if not x.startswith(("--", "use ", "pub use "))]
             if not code:
                 if place == 0:
                     self.opening = comment
@@ -400,7 +666,7 @@ class Module:
 
 
 class Structs:
-    """The structs of a crate's code, which its definitions import as records."""
+    """The structs and enums of a crate's code, which its definitions import as records and kinds of data."""
 
     def __init__(self, path):
         self.name, self.path, self.opening, self.order, self.declared = "structs", path, [], [], {}
@@ -408,11 +674,13 @@ class Structs:
         for line in read(path).split("\n"):
             if line.startswith("//"):
                 comment.append(line)
-            elif line.startswith("pub struct ") or code:
+            elif line.startswith(("pub struct ", "pub enum ")) or code:
                 code.append(line)
                 if line == "}":
-                    name = re.match(r"pub struct (\w+)", code[0]).group(1)
-                    self.declared[name] = Definition(self, name, "struct", comment, code)
+                    kind, name = re.match(r"pub (struct|enum) (\w+)", code[0]).groups()
+                    definition = Definition(self, name, kind, comment, code)
+                    for own in [name] + definition.constructors:
+                        self.declared[own] = definition
                     self.order.append(name)
                     comment, code = [], []
             else:
@@ -440,7 +708,7 @@ def module_of(name, asking):
 
 
 def tokens_of(code):
-    text = "\n".join(re.sub(r"(^|\s)--.*", "", line) for line in code)
+    text = "\n".join(re.sub(r"(^|\s)--.*", "", re.sub(r'"[^"]*"', "", line)) for line in code)
     return text, TOKEN.findall(text)
 
 
@@ -452,17 +720,22 @@ def bound_in(definition, text):
     for group in re.findall(r"λ\s+([^.()]+)\.", text):
         names.update(group.split())
     names.update(re.findall(r"\blet\s+(\S+)", text))
-    for head in re.findall(rf"^{re.escape(definition.name)} ([^=]*)=(?=\s|$)", text, re.M):
-        names.update(t.strip(".") for t in TOKEN.findall(head))
+    head = re.escape(definition.name)
+    if re.fullmatch("_.+_", definition.name):
+        head = rf"(?=\S+ {re.escape(definition.name[1:-1])} )"
+    for arguments in re.findall(rf"^{head} ?([^=]*)=(?=\s|$)", text, re.M):
+        names.update(t.strip(".") for t in TOKEN.findall(arguments))
     return {n.strip("«»") for n in names}
 
 
 def resolve(definition):
     """What a definition names: definitions of the crates, and names of libraries. Every other word has to be bound in it."""
     module, used, library, projected = definition.module, set(), set(), set()
-    if definition.kind == "struct":
+    if definition.kind in ("struct", "enum"):
         for kind in re.findall(r": (.*),$", "\n".join(definition.code), re.M):
-            if not re.fullmatch(r"u8|u16|u32|\[(u8|u16); 8\]", kind):
+            if kind in module.declared:
+                used.add(module.declared[kind])
+            elif not re.fullmatch(r"u8|u16|u32|u64|\[(u8|u16|u32); 8\]", kind):
                 fail(f"{module.path}: a field of {definition.name} has the type {kind}")
         return used, library, projected
     text, tokens = tokens_of(definition.code)
@@ -486,7 +759,7 @@ def resolve(definition):
     for name in LIBRARY["the language"]:
         scope.setdefault(name, ("library", ("the language", name)))
     own_words = {definition.name, *definition.fields, *definition.constructors}
-    own_words |= {c.strip("_") for c in definition.constructors}
+    own_words |= {own.strip("_") for own in own_words}
     for place, token in enumerate(tokens):
         if token.startswith(".") and len(token) > 1:
             projected.add(token[1:].strip("«»"))
@@ -761,12 +1034,13 @@ def proved():
 def contract(path, name, cites):
     """The head of a function of code, with its contract."""
     text = read(path)
-    found = re.search(rf'^pub extern "C" fn {name}\(.*?(?=^\{{)', text, re.M | re.S)
+    found = re.search(rf'^pub (extern "C" )?fn {name}\(.*?(?=^\{{)', text, re.M | re.S)
     if not found:
         fail(f"{path} has no {name}")
-    if f"({cites} " not in found.group(0) or "requires" in found.group(0):
-        fail(f"{path}: the contract of {name} is not that it gives {cites}, for all arguments")
-    return found.group(0).rstrip("\n").split("\n")
+    head = found.group(0)
+    if "requires" in head or not all(re.search(rf"[(≡] ?{cite} ", head) for cite in cites):
+        fail(f"{path}: the contract of {name} is not that it gives {' and '.join(cites)}, for all arguments")
+    return head.rstrip("\n").split("\n")
 
 
 class Reading:
@@ -783,7 +1057,7 @@ class Reading:
         """Every definition has its place in the table, and every place of the table a definition."""
         placed = set()
         for number, (file, title, groups) in enumerate(FILES, 1):
-            path = f"crates/{CRATE}/{file}"
+            path = f"crates/{file}"
             here = [(path, name) for _, _, names in groups for name in names]
             for place in here:
                 if place not in self.by_place:
@@ -818,7 +1092,7 @@ class Reading:
         """Links to where some definitions are used, other than by themselves."""
         using = {d for d, (used, _, _) in self.found.items() if d not in definitions and used & definitions}
         places = {self.where[d]: d for d in using}
-        return [self.link(places[place]) for place in sorted(places, key=lambda w: [int(x) for x in w[0].split(".")])]
+        return [self.link(d) for d in sorted(places.values(), key=self.order_of)]
 
     def lines(self):
         """The definitions, section by section, below the words that they render."""
@@ -826,11 +1100,16 @@ class Reading:
         for number, path, title, module, groups in self.sections:
             opening = plain(" ".join(re.sub(r"^(--|//) ?", "", line) for line in module.opening))
             lines += [f"## {number}. {title}", "", *wrapped(f"`{path}`. {opening}"), ""]
-            lines += quoted_lines(WHOLE.get(path.split("/", 2)[2], []), False)
+            lines += quoted_lines(WHOLE.get(path.removeprefix("crates/"), []), False)
             for n, (group, said, names) in enumerate(groups, 1):
                 here = [self.by_place[(path, name)] for name in names]
                 lines += [f"### {number}.{n} {group}", ""]
-                lines += [*wrapped(f"{OWN} Used in {', '.join(self.users(set(here)))}."), ""] if said == OWN else quoted_lines(said)
+                if said in (OWN, FURTHER):
+                    lines += [*wrapped(f"{said} Used in {', '.join(self.users(set(here)))}."), ""]
+                elif said[0] == FURTHER:
+                    lines += [*wrapped(f"{FURTHER} Closest to it is:"), "", *quoted_lines(said[1:])]
+                else:
+                    lines += quoted_lines(said)
                 lines.append("```")
                 for position, definition in enumerate(here):
                     lines += ([""] if position else []) + definition.comment + definition.code
@@ -838,11 +1117,20 @@ class Reading:
         return lines
 
     def index(self):
+        names = [d.name for d in self.found]
+
+        def shown(definition):
+            """The name, and where several definitions have it, with the place."""
+            return f"`{definition.name}`" + (f" ({self.where[definition][0]})" if names.count(definition.name) > 1 else "")
+
         lines = ["| definition | where | what it names |", "|---|---|---|"]
-        for definition in sorted(self.found, key=lambda d: (d.name.lower(), d.name)):
-            used = sorted((o.name for o in self.found[definition][0]), key=lambda name: (name.lower(), name))
-            lines.append(f"| `{definition.name}` | {self.link(definition)} | {', '.join(f'`{u}`' for u in used)} |")
+        for definition in sorted(self.found, key=lambda d: (d.name.lower(), d.name, self.order_of(d))):
+            used = sorted(self.found[definition][0], key=lambda d: (d.name.lower(), d.name, self.order_of(d)))
+            lines.append(f"| `{definition.name}` | {self.link(definition)} | {', '.join(map(shown, used))} |")
         return lines
+
+    def order_of(self, definition):
+        return [int(x) for x in self.where[definition][0].split(".")]
 
 
 def kept_elsewhere():
@@ -855,6 +1143,12 @@ def kept_elsewhere():
         for name, file in re.findall(r"`([^`]+)` \((crates/[^)]*)\)", reason):
             if not re.search(rf"^\s*((unfoldable|abbrev|pub|record|data) )*{re.escape(name)}[ (]", read(file), re.M):
                 fail(f"{name} is not declared in {file}")
+        for file in re.findall(r"(?<!\()\b((?:crates|docs|include)/[\w/.-]*\w)", reason):
+            if not (ROOT / file).exists():
+                fail(f"ELSEWHERE names {file}, which is not there")
+        for number in re.findall(r"\bD\d+\b", reason):
+            if f"- **{number}. " not in read("docs/DECISIONS.md"):
+                fail(f"docs/DECISIONS.md has no {number}")
         reasons[key] = (words, reason)
     for letter in [*ACCOUNTED, *LANDED]:
         for n, (_, sentence) in enumerate(PAPERS[letter][1]):
@@ -881,35 +1175,47 @@ def library_names(found):
     return names
 
 
-def opening_of(values, facts):
-    """The first part of the page, with the figures put into their places."""
+def opening_of(values, facts, sections):
+    """The first part of the page, with the figures put into their places, and links to the sections that it names."""
     text = (HERE / "reading-opening.md").read_text(encoding="utf-8")
+    places = {title: f"{number}. {title}" for number, _, title, _, _ in sections}
+    for title in re.findall(r"@section ([^@]*)@", text):
+        if title not in places:
+            fail(f"reading-opening.md names a section '{title}', which the page does not have")
+        text = text.replace(f"@section {title}@", f"[{places[title].replace('.', '', 1)}](#{anchor(places[title])})")
+    fields = set(re.findall(r"`([\w-]+)`", " ".join(re.findall(r"(?m)^\| (`.*?) \|", text.split("\n## A route")[0]))))
+    for name in sorted(fields ^ {f for f in facts[0] if f != DEMAND}):
+        fail(f"reading-opening.md and {STATEMENT[1]} do not both have the field {name}")
     for word, value in values.items():
         if f"@{word}@" not in text:
             fail(f"reading-opening.md has no place for @{word}@")
         text = text.replace(f"@{word}@", str(value))
-    for fact in facts:
+    for fact in facts[1:]:
         if fact not in text:
             fail(f"reading-opening.md does not name {fact}")
     return text.rstrip("\n").split("\n")
 
 
 def code_lines():
-    """The contracts of the calls, and the record that they are."""
-    module = Module("Gives", GIVES[0])
-    gives = module.declared[GIVES[1]]
-    lines = wrapped("Not part of the statement, but what joins it to the library that is built: the contract of each C function, in which the definitions"
-                    " above are cited. `image .entry` is the buffer before the call and `image .exit` after it, `now` is what it holds, and r the number"
-                    " that is returned. There is no `requires`: the contracts hold for all arguments.")
-    lines += ["", "```", *module.opening, *gives.comment, *gives.code]
+    """The contracts of the open functions, and the records that they are."""
+    lines = wrapped("Not part of `Claims`, but what joins it to the code that is built: the contracts of the four C functions, of plan over a lent list and of"
+                    " what the plan program prints, in which the definitions above are cited. `image .entry` is the buffer before the call and `image .exit`"
+                    " after it, `now` is what it holds, and r what is returned. What stands between `⌜` and `⌝` is the fact that is promised, and"
+                    " `ensures within` adds a bound to it. There is no `requires`: the contracts hold for all arguments. Of the records, `sets l i vs` is"
+                    " the list l with the entries of vs in place of its own from place i on.")
+    lines += ["", "```"]
+    for path, names in GIVES:
+        module = Module(Path(path).stem, path)
+        lines += [*module.opening, *(line for name in names for line in (*module.declared[name].comment, *module.declared[name].code, ""))]
     for path, name, cites in CODE:
-        lines += ["", f"// {path}", *contract(path, name, cites)]
-    return lines + ["```"]
+        lines += [f"// {path}", *contract(path, name, cites), ""]
+    return lines[:-1] + ["```"]
 
 
 def elsewhere_lines(reasons):
-    lines = wrapped("Of the six sections of document 01 that are quoted above, and of the requests of document 02 that have landed, these sentences are"
-                    " rendered by no definition of demand 3:") + [""]
+    titles = ", ".join(f'"{SECTIONS[letter]}"' for letter in SECTIONS if letter not in ACCOUNTED)
+    lines = wrapped(f"Of document 01, all but {titles}, and of the requests of document 02 that have landed, these sentences are rendered by no definition of"
+                    " `Claims`:") + [""]
     for (letter, _), (words, reason) in reasons.items():
         of = "" if letter in SECTIONS else f"Document 02, ({letter}), "
         lines += wrapped(f"{of}\"{words.rstrip('.')}\": {reason}.", "- ", "  ")
@@ -935,7 +1241,7 @@ def library_lines():
 
 
 def main():
-    statement = module_of(f"Rattle.{CRATE}.specs.{STATEMENT[0]}", "reading.py").declared[STATEMENT[1]]
+    statement = module_of(f"Rattle.{PROVED_IN}.specs.{STATEMENT[0]}", "reading.py").declared[STATEMENT[1]]
     found = closure_of(statement)
     if not re.search(rf"^pub {re.escape(PROOF[0])} : {STATEMENT[1]}$", read(PROOF[1]), re.M):
         fail(f"{PROOF[1]} has no {PROOF[0]} : {STATEMENT[1]}")
@@ -948,19 +1254,19 @@ def main():
     verdicts, crates = proved()
     values = {
         "definitions": len(found),
-        "structs": sum(1 for d in found if d.kind == "struct"),
+        "structs": sum(1 for d in found if d.kind in ("struct", "enum")),
         "lines": sum(1 for d in found for line in d.code if line.strip()),
         "files": len({d.module.path for d in found}),
+        "crates": len({d.module.path.split("/")[1] for d in found}),
         "names": len(names),
         "quoted": f"{quoted[0]} of document 01, {quoted[1]} of document 02",
         "document 01": account(ACCOUNTED, reasons),
         "landed": f"{len(LANDED)} of {len(REQUESTS)}",
         "document 02": account(LANDED, reasons),
-        "verdicts": "\n".join(f"{name}: {verdicts[name]}" for name in (CRATE, PROVED_IN)),
-        "between": ", ".join(f"`{c}`" for c in crates if c not in (CRATE, PROVED_IN)),
+        "verdicts": "\n".join(f"{name}: {verdicts[name]}" for name in crates),
     }
-    page = opening_of(values, (f"`{STATEMENT[1]}`", f"`{statement.module.path}`", f"`{PROOF[0]}` (`{PROOF[1]}`)"))
-    tail = [("The calls in code", code_lines()), ("Sentences that no definition renders", elsewhere_lines(reasons)),
+    page = opening_of(values, (statement.fields, f"`{STATEMENT[1]}`", f"`{statement.module.path}`", f"`{PROOF[0]}` (`{PROOF[1]}`)"), reading.sections)
+    tail = [("The contracts in code", code_lines()), ("Sentences that no definition renders", elsewhere_lines(reasons)),
             ("Sentences that are overruled", overruled_lines()),
             ("Names of the libraries", library_lines()), ("Index", reading.index())]
     page += ["", "## Contents", ""]

@@ -1,4 +1,4 @@
--- Demand 2, of offers: "11 and 12 only when the delay sum says late", in plain terms over the delay bound (document 01: delay sum).
+-- Demand 2, of offers: "11 and 12 only when late", in plain terms over the delay bound (document 01: delay sum).
 use mathlib.Core.Path.{_≡_}
 use mathlib.Core.Bool.{true, false}
 use mathlib.Core.Logic.{_⊎_}
