@@ -1,16 +1,17 @@
 #!/usr/bin/env python3
-"""reading.py [ROOT]: writes docs/READING.md, demand 3's statement with every definition that it rests on, to standard output.
+"""reading.py [ROOT]: writes docs/READING.md, the record `Claims` with every definition that it rests on, to standard output.
 
-1. The definitions are found from the sources: beginning with `Demand3`, every name is followed to its declaration, through the `use` lines of its file and
-   through structs of code, until only names of the toolchain's libraries are left. A name that is none of these ends the program.
+1. The definitions are found from the sources: beginning with `Claims`, every name is followed to its declaration, through the `use` lines of its file, from
+   crate to crate and through structs and enums of code, until only names of the toolchain's libraries are left. A name that is none of these ends the program.
 2. They are put in reading order, file by file, and each stands after all that it uses; that is checked.
 3. Above each stands what it renders of the papers, sentences or words of them that `document-01.md` and `document-02.md` have. A definition without such words
-   ends the program, and so does an entry of the table below that is no definition of demand 3, or that is no part of the papers.
+   ends the program, and so does an entry of the table below that is no definition of `Claims`, or that is no part of the papers.
 4. Every quotation in a comment of the crates of definitions has to stand in the paper that it names: `Document 02, (iii): ".."` in that request, and where
    nothing is named, in document 01. No quotation is of words that the table OVERRULED has, or of a request that has not landed; tests/level says how many have.
-5. Every sentence of six sections of document 01, and of each request that has landed, is rendered by a definition, or the table ELSEWHERE says where it is
-   kept, or it is overruled.
-6. The lines in which rt says that the crates are proved are taken from target/log, where `rt check claims` leaves them.
+5. Every sentence of document 01, but for its language forms, and of each request that has landed, is rendered by a definition, or the table ELSEWHERE says
+   where it is kept, or it is overruled.
+6. The first part is `reading-opening.md`, in which `@section TITLE@` becomes a link to that section. It has words for every field of `Claims`.
+7. The lines in which rt says that the crates are proved are taken from target/log, where `rt check claims` leaves them.
 
 What was counted goes to standard error.
 """
@@ -224,8 +225,8 @@ FILES = [
     ("model/specs/StateOf.antt", "The state that the book stands for", [
         ("The record of an accepted order", ["I~ ticket, acceptance tick, due tick, sum of the company's largest costs (4 each)",
                                              "I~ the company's largest cost at each station (2 each)"], ["recordOver", "recordOf"]),
-        ("The state", ["R: It holds N", "R: In the book, live means", "I~ Then 32 records of 64 bytes, live ones first in ticket order", "C: Tickets run from 1"],
-         ["stateOf"]),
+        ("The state", ["R: It holds N", "R: In the book, live means", "I~ Then 32 records of 64 bytes, live ones first in ticket order",
+                       "C: Tickets run from 1"], ["stateOf"]),
     ]),
     ("image_laws/specs/Iff.antt", "Exactly when", [
         ("Each from the other", OWN, ["_⇔_"]),
@@ -244,7 +245,8 @@ FILES = [
         ("The image in step with the book", [FURTHER, "W~ with company taken from the history of calls and not from stored sums"], ["InStep", "ByHistory"]),
     ]),
     ("image_laws/specs/InRange.antt", "Figures that fit their fields", [
-        ("Fields of one byte, of two and of four", ["I~ eight ranks (1 each); eight costs (2 each)", "I~ clock (4 bytes)"], ["byteLimit", "halfLimit", "wordLimit"]),
+        ("Fields of one byte, of two and of four", ["I~ eight ranks (1 each); eight costs (2 each)", "I~ clock (4 bytes)"],
+         ["byteLimit", "halfLimit", "wordLimit"]),
         ("Bytes", ["C~ with numbers and byte buffers"], ["Below"]),
         ("A row of eight", ["I~ eight costs (2 each); the company's largest cost at each station (2 each)"], ["Row"]),
         ("A station's entry", ["I~ ticket in service or 0 (4), ticks to go (2)"], ["ServiceInRange"]),
@@ -311,9 +313,10 @@ FILES = [
     ]),
     ("image_laws/specs/SoundFacts.antt", "Soundness, as facts", [
         ("The company's largest cost at a station", ["I~ the company's largest cost at each station (2 each)"], ["maximum"]),
-        ("A live order", ["I~ live tickets at least 1", "I~ acceptance at most the clock; due tick 1 to 60,000 after acceptance and at most 4,000,000,000; station"
-                          " 1 to N; costs in range; each maximum at least the own cost and at most 6,000; the sum at least the own largest cost; the order"
-                          " on time; fields beyond N zero"], ["SoundOrder"]),
+        ("A live order", ["I~ live tickets at least 1",
+                          "I~ acceptance at most the clock; due tick 1 to 60,000 after acceptance and at most 4,000,000,000; station 1 to N; costs in range;"
+                          " each maximum at least the own cost and at most 6,000; the sum at least the own largest cost; the order on time; fields beyond N"
+                          " zero"], ["SoundOrder"]),
         ("A state", ["I~ N 1 to 8; live at most 32; clock at most 4,000,000,000",
                      "I~ live tickets at least 1, rising, and below the next ticket where that is not 0",
                      "I~ fields beyond N zero; each station idle (0, 0) or serving a live order that is at it, with ticks to go from 1 to its cost there"],
@@ -449,7 +452,8 @@ FILES = [
 # What stands at the head of a file's section: the passage whole, before it is taken part by part.
 WHOLE = {
     "model/specs/Tick.antt": ["T: Advance does this", "T: Each idle station", "T: The clock goes up by one", "T: An order with nothing to go"],
-    "model/specs/DelayBound.antt": ["D: For an accepted order T", "D: Members that are out", "D: Delay sum of T", "D: With N = 1", "D: T is on time", "D: Margin is"],
+    "model/specs/DelayBound.antt": ["D: For an accepted order T", "D: Members that are out", "D: Delay sum of T", "D: With N = 1", "D: T is on time",
+                                    "D: Margin is"],
     "model/specs/Soundness.antt": ["I: Sound means"],
     "image_laws/specs/SoundFacts.antt": ["I: Sound means"],
     "plan_model/specs/Plan.antt": ["S: Plan reads a table", "S: The standing table is", "S: Plan fills base", "S: It declines N by 14", "S: Costs beyond N"],
@@ -1201,12 +1205,15 @@ def code_lines():
     lines = wrapped("Not part of `Claims`, but what joins it to the code that is built: the contracts of the four C functions, of plan over a lent list and of"
                     " what the plan program prints, in which the definitions above are cited. `image .entry` is the buffer before the call and `image .exit`"
                     " after it, `now` is what it holds, and r what is returned. What stands between `⌜` and `⌝` is the fact that is promised, and"
-                    " `ensures within` adds a bound to it. There is no `requires`: the contracts hold for all arguments. Of the records, `sets l i vs` is"
-                    " the list l with the entries of vs in place of its own from place i on.")
+                    " `ensures within` promises one more. There is no `requires`: the contracts hold for all arguments. In the records, `sets l i vs` is"
+                    " the list l with the entries of vs stored in turn from place i on, as far as l goes.")
     lines += ["", "```"]
     for path, names in GIVES:
         module = Module(Path(path).stem, path)
-        lines += [*module.opening, *(line for name in names for line in (*module.declared[name].comment, *module.declared[name].code, ""))]
+        lines += module.opening
+        for name in names:
+            lines += [*([""] if module.declared[name].comment else []), *module.declared[name].comment, *module.declared[name].code]
+        lines.append("")
     for path, name, cites in CODE:
         lines += [f"// {path}", *contract(path, name, cites), ""]
     return lines[:-1] + ["```"]
