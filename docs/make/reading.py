@@ -10,7 +10,8 @@
    nothing is named, in document 01. No quotation is of words that the table OVERRULED has, or of a request that has not landed; tests/level says how many have.
 5. Every sentence of document 01, but for its language forms, and of each request that has landed, is rendered by a definition, or the table ELSEWHERE says
    where it is kept, or it is overruled.
-6. The first part is `reading-opening.md`, in which `@section TITLE@` becomes a link to that section. It has words for every field of `Claims`.
+6. The first part is `reading-opening.md`, in which `@section TITLE@` becomes a link to that section and `@number TITLE@` its number. It has words for every
+   field of `Claims`, and the edits that it tells a reader to try fit the sources.
 7. The lines in which rt says that the crates are proved are taken from target/log, where `rt check claims` leaves them.
 
 What was counted goes to standard error.
@@ -1182,11 +1183,15 @@ def library_names(found):
 def opening_of(values, facts, sections):
     """The first part of the page, with the figures put into their places, and links to the sections that it names."""
     text = (HERE / "reading-opening.md").read_text(encoding="utf-8")
-    places = {title: f"{number}. {title}" for number, _, title, _, _ in sections}
-    for title in re.findall(r"@section ([^@]*)@", text):
-        if title not in places:
+    numbers = {title: number for number, _, title, _, _ in sections}
+    for title in re.findall(r"@(?:section|number) ([^@]*)@", text):
+        if title not in numbers:
             fail(f"reading-opening.md names a section '{title}', which the page does not have")
-        text = text.replace(f"@section {title}@", f"[{places[title].replace('.', '', 1)}](#{anchor(places[title])})")
+        number = numbers[title]
+        text = text.replace(f"@section {title}@", f"[{number} {title}](#{anchor(f'{number}. {title}')})").replace(f"@number {title}@", str(number))
+    for old, file in re.findall(r"(?m)^    sed -i 's/(.*)/.*/' (\S+)$", text):
+        if old not in read(file):
+            fail(f"reading-opening.md changes '{old}' in {file}, which does not have it")
     fields = set(re.findall(r"`([\w-]+)`", " ".join(re.findall(r"(?m)^\| (`.*?) \|", text.split("\n## A route")[0]))))
     for name in sorted(fields ^ {f for f in facts[0] if f != DEMAND}):
         fail(f"reading-opening.md and {STATEMENT[1]} do not both have the field {name}")
