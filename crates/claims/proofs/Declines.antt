@@ -11,7 +11,7 @@ use Rattle.model.specs.State.{State}
 use Rattle.model.specs.Questions.{Answer, replyBytes, zeros}
 use Rattle.model.specs.Image.{decode}
 use Rattle.model.specs.Admission.{blockOf, offerAnswer, quoteAnswer}
-use Rattle.model.specs.Calls.{result, openNumber, openCall, offerNumber, offerCall, quoteCall, advanceNumber, advanceAnswer, advanceCall, Call, opening, quoting, offering, advancing, perform}
+use Rattle.model.specs.Calls.{result, openNumber, openCall, offerNumber, offerCall, quoteCall, advanceNumber, advanceAnswer, advanceCall, opening, quoting, offering, advancing, perform}
 use Rattle.schedule.proofs.Laws.{by-cond}
 use Rattle.claims.specs.Declines.{DeclinedAt, Declines}
 

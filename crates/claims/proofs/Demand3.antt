@@ -1,20 +1,18 @@
 -- Demand 3: the invariant gives what is said of each accepted order and of each reply, call by call.
-use mathlib.Core.Path.{_≡_, refl, sym, ap, subst, _∙_}
+use mathlib.Core.Path.{_≡_, sym, ap, subst, _∙_}
 use mathlib.Core.List.{List, [], _∷_}
 use mathlib.Core.Option.{none}
-use Prim.Native.Nat.{ℕ, zero, suc, _+_, _≤_, _<_}
+use Prim.Native.Nat.{ℕ, _+_, _≤_, _<_}
 use native.Mathlib.Omega.{arith}
 use lib.ListN.{length}
-use lib.IntN.{pos}
 use Rattle.model.specs.Limits.{lastTick}
 use Rattle.model.specs.Bytes.{word}
 use Rattle.model.specs.State.{State}
 use Rattle.model.specs.Tick.{advanceOut}
 use Rattle.model.specs.Layout.{replySize, replyTicketAt, replyTickAt}
 use Rattle.model.specs.Image.{decode}
-use Rattle.model.specs.Questions.{Answer, replyBytes}
 use Rattle.model.specs.Admission.{blockOf, offerAnswer}
-use Rattle.model.specs.Calls.{result, offerNumber, offerCall, advanceNumber, advanceAnswer, advanceCall, Call, opening, quoting, offering, advancing, perform}
+use Rattle.model.specs.Calls.{result, offerNumber, offerCall, advanceNumber, advanceCall, Call, opening, quoting, offering, advancing, perform}
 use Rattle.model.specs.History.{Entry, History, entryDue, entryBound, acceptIn, advanceIn, feed, outAt}
 use Rattle.model.specs.StateOf.{recordOf, stateOf}
 use Rattle.model.specs.Runs.{Lent, Run, started, outcome, afterCall, afterAll, AllAllowed}

@@ -1,8 +1,8 @@
 -- A use of what advance returns and leaves, and of when an order may start first, on definite images.
 use mathlib.Core.Path.{_≡_, refl, ap, _∙_}
 use mathlib.Core.Bool.{true}
-use mathlib.Core.List.{List, [], _∷_, _++_, List·Memᴰ·head, List·Memᴰ·not-nil}
-use Prim.Native.Nat.{ℕ, _≤_, _<_}
+use mathlib.Core.List.{[], _∷_, _++_, List·Memᴰ·head, List·Memᴰ·not-nil}
+use Prim.Native.Nat.{_≤_, _<_}
 use native.Mathlib.Omega.{arith}
 use lib.ListN.{getD, replicate}
 use borrow.Author.Tests.{leb-true}
@@ -17,9 +17,8 @@ use Rattle.model.specs.Calls.{advanceCall}
 use Rattle.model.specs.Runs.{started, outcome, afterCall, afterAll}
 use Rattle.model.specs.Table.{readRow}
 use Rattle.model.specs.Cases.{order, X}
-use Rattle.schedule.specs.Valid.{_∈_, serving, Busy}
+use Rattle.schedule.specs.Valid.{Busy}
 use Rattle.schedule.specs.Starts.{AtStart}
-use Rattle.image_laws.specs.InRange.{byteLimit, Below}
 use Rattle.image_laws.specs.Usable.{Usable}
 use Rattle.call_laws.specs.AdvanceExact.{ExactAt}
 use Rattle.claims.specs.Images.{TickAsAsked, TimelyAt}

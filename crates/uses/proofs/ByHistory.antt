@@ -1,24 +1,22 @@
 -- A use of what is judged by the history, at 2 stations and at 8: an order that is taken, one that is late, one that would delay a live order; and what the next
 -- call never returns. Quotes and offers are judged alike.
-use mathlib.Core.Path.{_≡_, refl, sym, ap, subst, _∙_}
+use mathlib.Core.Path.{_≡_, refl, ap, subst, _∙_}
 use mathlib.Core.Logic.{_⊎_, _≢_, inl, inr}
 use mathlib.Core.Bool.{true}
 use mathlib.Core.List.{List, [], _∷_, List·Memᴰ·head, List·Memᴰ·tail}
-use mathlib.Core.Option.{none}
 use Prim.Native.Nat.{ℕ, _≤_, _<_}
 use native.Mathlib.Omega.{arith}
 use lib.ListN.{getD}
 use borrow.Author.Tests.{leb-true}
 use lib.IntN.{ℤ, pos, negsuc}
 use lib.Signed.{mag, ltZ}
-use Rattle.model.specs.Lists.{at, part}
+use Rattle.model.specs.Lists.{part}
 use Rattle.model.specs.Bytes.{word, fourBytes, bits32}
 use Rattle.model.specs.Layout.{clockAt, replyTickAt, replyMarginAt}
-use Rattle.model.specs.Image.{decode}
 use Rattle.model.specs.Admission.{blockOf}
 use Rattle.model.specs.Calls.{Result, quoteCall, offerCall, opening, offering, advancing}
 use Rattle.model.specs.History.{Entry, liveOrders}
-use Rattle.model.specs.Runs.{Run, started, outcome, afterCall, afterAll, AllAllowed}
+use Rattle.model.specs.Runs.{started, outcome, afterCall, afterAll, AllAllowed}
 use Rattle.model.specs.Table.{readRow}
 use Rattle.model.specs.Cases.{order, X, Y}
 use Rattle.claims.specs.ByHistory.{tried, arriving, OnTime, Late, marginOf, Considered, Judged, InStep}

@@ -1,23 +1,20 @@
 -- Demand 3 of definite lists of calls, each comparison computed: the statement speaks of more than empty lists, of orders that are out, in service and waiting,
 -- and it is tight. Y is out on its bound and on its due tick; with the ranks reversed X is out later than the bound that it had when it was accepted. Nothing
 -- here rests on the proof of demand 3.
-use mathlib.Core.Path.{_≡_, refl, sym, ap, subst, _∙_}
+use mathlib.Core.Path.{_≡_, refl, sym, subst, _∙_}
 use mathlib.Core.Bool.{true}
 use mathlib.Core.Logic.{_≢_, inl, inr}
 use mathlib.Core.List.{List, [], _∷_, List·Memᴰ, List·Memᴰ·not-nil, List·Memᴰ·cases-cons}
-use mathlib.Core.Option.{Option, none, some, Option·some-injective, Option·some-ne-none}
-use Prim.Native.Nat.{ℕ, suc, _≤_}
+use mathlib.Core.Option.{none, some, Option·some-injective, Option·some-ne-none}
+use Prim.Native.Nat.{ℕ, suc}
 use native.Mathlib.Omega.{arith}
-use lib.ListN.{length, getD, replicate}
-use lib.Dec.{eqb}
+use lib.ListN.{length, getD}
 use borrow.Author.Tests.{leb-true}
-use Rattle.model.specs.Layout.{imageSize, replySize}
-use Rattle.model.specs.Questions.{_else_, firstNo}
 use Rattle.model.specs.Admission.{blockOf}
 use Rattle.model.specs.Calls.{result, replyQuestion, advanceNumber, advanceCall}
 use Rattle.model.specs.History.{Entry, entering, isAt, outAt}
 use Rattle.model.specs.Runs.{Run, started, outcome, afterCall, afterAll, AllAllowed}
-use Rattle.model.specs.Table.{readRow, lent}
+use Rattle.model.specs.Table.{readRow}
 use Rattle.model.specs.Cases.{order, X, Y}
 use Rattle.claims.specs.Demand3.{InTime, Kept}
 use Rattle.uses.specs.DefiniteLists.{someImage, someReply, opened, mixedCalls, reversedCalls, halfwayCalls, eightCalls, mixed, reversed, halfway, eight}

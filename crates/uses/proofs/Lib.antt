@@ -7,3 +7,6 @@ pub mod ByHistory
 pub mod Offers
 pub mod Ticks
 pub mod Advances
+pub mod Served
+pub mod Plans
+pub mod Table

@@ -10,8 +10,9 @@ use lib.IntN.{ℤ, pos, negsuc}
 use lib.Signed.{mag, ltZ}
 use borrow.Author.Tests.{leb-true}
 use Rattle.model.specs.declared.Order.{Order}
+use Rattle.model.specs.declared.Service.{Service}
 use Rattle.model.specs.Bytes.{word, fourBytes, bits32}
-use Rattle.model.specs.State.{State}
+use Rattle.model.specs.State.{State, idle, fresh}
 use Rattle.model.specs.Layout.{clockAt}
 use Rattle.model.specs.Image.{decode}
 use Rattle.model.specs.Admission.{blockOf, arrival, joinedBy, joinedLive}
@@ -19,6 +20,7 @@ use Rattle.model.specs.Calls.{opening, quoting, offering, advancing}
 use Rattle.model.specs.Runs.{started, outcome, afterCall, afterAll}
 use Rattle.model.specs.Table.{readRow, lent}
 use Rattle.model.specs.Cases.{X, Y}
+use Rattle.schedule.specs.Valid.{serving, Busy}
 use Rattle.image_laws.specs.InRange.{byteLimit, Below}
 use Rattle.call_laws.specs.Considered.{Considered}
 use Rattle.call_laws.specs.OfferExact.{InTime, Late, marginOf, ExactAt}
@@ -199,10 +201,31 @@ kept =
     let k = claims .offers-keep-sound (one .image) (Y 7 5) someReply one-bytes (all-below 256 (Y 7 5) (omega arith) (refl {a = true})) refl in
     (k .whole, k .bytes 0, k .is-marked, k .is-sound, ap (λ (s : State). s .next) (k .says))
 
--- ---- a fresh image is sound and says the fresh state
-fresh-2 : (1 ≤ 2) × Yes × Figure 1
+-- ---- a fresh image is sound and says the fresh state, at 2 stations and at 8
+fresh-says : Yes × Figure 0 × Figure 1 × Yes × Figure 8
 unfolding readRow opened oneCalls one X Y Z started afterCall outcome afterAll
-fresh-2 = let f = claims .opens-fresh 2 (omega arith) (omega arith) in (f .state .facts .n-low, f .image, ap (λ (s : State). s .next) (f .read))
+fresh-says =
+    let two = claims .opens-fresh 2 (omega arith) (omega arith) in
+    let eight = claims .opens-fresh 8 (omega arith) (omega arith) in
+    (two .image, ap (λ (s : State). s .clock) (two .read), ap (λ (s : State). s .next) (two .read), eight .image, ap (λ (s : State). s .n) (eight .read))
+
+-- The clauses of soundness as facts about it: N, the live count and the clock; an entry beyond N, and one of a station, which is idle since nobody is live.
+fresh-facts : (1 ≤ 2) × (2 ≤ 8) × (0 ≤ 32) × (0 ≤ 4000000000) × Figure 0 × Figure 0
+unfolding readRow opened oneCalls one X Y Z started afterCall outcome afterAll
+fresh-facts =
+    let f = claims .opens-fresh 2 (omega arith) (omega arith) .state .facts in
+    (f .n-low, f .n-high, f .live, f .clock, ap (λ (e : Service). e .ticket) (f .idle-beyond 3 (omega arith)), idle-one (f .services 1 (omega arith) (omega arith)))
+  where
+    idle-one : (serving (fresh 2) 1 ≡ idle) ⊎ Busy (fresh 2) 1 → Figure 0
+    idle-one (inl free) = ap (λ (e : Service). e .ticket) free
+    idle-one (inr busy) = absurd (let w : 1 ≤ 0 = busy .some-left in let z : ⊥ = omega (arith, w) in z)
+
+fresh-fits : (2 < 256) × (0 < 4294967296) × (1 < 4294967296) × Figure 8 × (0 < 4294967296) × (0 < 65536) × (0 ≤ 32)
+unfolding readRow opened oneCalls one X Y Z started afterCall outcome afterAll
+fresh-fits =
+    let r = claims .opens-fresh 2 (omega arith) (omega arith) .state .in-range in
+    let e = r .services idle (List·Memᴰ·head refl) in
+    (r .n, r .clock, r .next, r .eight, e .ticket, e .left, r .live)
 
 -- ---- what declines leave: of the image (its clock), and of the reply, whole; with 11 and 12 all but the margin, which stands above
 declined-open : Figure 1 × Figure 16 × Bytes (14 ∷ replicate 11 0) × Bytes (14 ∷ replicate 15 0)

@@ -1,31 +1,31 @@
 -- A use of what each tick does, of images: who starts, who goes on, who leaves and who is out, and the reply. Three orders wait at station 1; the image is taken
 -- before the first advance, before the second and before the third.
-use mathlib.Core.Path.{_≡_, refl, sym, ap, subst, _∙_}
+use mathlib.Core.Path.{_≡_, refl, sym, ap, _∙_}
 use mathlib.Core.Logic.{_≢_}
 use mathlib.Core.Bool.{true}
-use mathlib.Core.List.{List, [], _∷_, _++_, map, List·Memᴰ·head, List·Memᴰ·tail, List·Memᴰ·not-nil}
-use Prim.Native.Nat.{ℕ, _≤_, _<_}
+use mathlib.Core.List.{List, [], map, List·Memᴰ·head, List·Memᴰ·tail}
+use Prim.Native.Nat.{ℕ, _≤_}
 use native.Mathlib.Omega.{arith}
-use lib.ListN.{getD, replicate}
+use lib.ListN.{getD}
 use borrow.Author.Tests.{leb-true}
 use Rattle.model.specs.declared.Order.{Order}
 use Rattle.model.specs.declared.Service.{Service}
 use Rattle.model.specs.Lists.{at}
-use Rattle.model.specs.State.{State, idle}
+use Rattle.model.specs.State.{State}
 use Rattle.model.specs.Tick.{oneLess, starts, advance, moveTo}
 use Rattle.model.specs.Image.{decode}
 use Rattle.model.specs.Admission.{blockOf, arrival}
 use Rattle.model.specs.Runs.{started, outcome, afterCall, afterAll, AllAllowed}
 use Rattle.model.specs.Table.{readRow}
 use Rattle.model.specs.Cases.{order, X}
-use Rattle.schedule.specs.Valid.{_∈_, serving, Waits, Busy}
+use Rattle.schedule.specs.Valid.{_∈_, Waits}
 use Rattle.schedule.specs.Starts.{AtStart, Started}
 use Rattle.schedule.specs.Pass.{passTo, AtPass}
 use Rattle.image_laws.specs.InRange.{byteLimit, Below}
-use Rattle.claims.specs.Images.{TickAsAsked, TicksAsAsked}
+use Rattle.claims.specs.Images.{TickAsAsked}
 use Rattle.claims.proofs.Claims.{claims}
 use Rattle.uses.specs.DefiniteLists.{someImage, someReply, opened, waitingCalls, waiting, oneCalls, one}
-use Rattle.uses.proofs.Words.{Figure, Bytes, Yes, of-one, of-three, all-below, differ}
+use Rattle.uses.proofs.Words.{Figure, of-three, all-below, differ}
 
 -- The state before the advance with this number, counted from 0, and its order with place i.
 abbrev before : ℕ → State

@@ -1,5 +1,5 @@
 -- Definite lists of calls as demand 3 has them, and the runs after them. X and Y are document 01's orders.
-use mathlib.Core.List.{List, [], _∷_, _++_}
+use mathlib.Core.List.{List, [], _∷_}
 use Prim.Native.Nat.{ℕ, _-_}
 use lib.ListN.{replicate}
 use Rattle.model.specs.State.{fresh}

@@ -1,0 +1,74 @@
+-- A use of the worked cases: each case is taken from the one table, and has the rows with the figures that document 01 gives, so that a case left out, a row
+-- left out or another figure is refused.
+use mathlib.Core.Path.{_≡_, refl}
+use mathlib.Core.Bool.{true}
+use mathlib.Core.List.{List, [], _∷_}
+use Prim.Native.Nat.{ℕ}
+use lib.ListN.{getD, replicate}
+use lib.IntN.{pos, negsuc}
+use Rattle.model.specs.Calls.{offering, advancing}
+use Rattle.model.specs.Table.{Row, opens, gives, serving, outs, bounds, inStep, Hold}
+use Rattle.model.specs.Cases.{order, X, Y, accepts, late, advances, firstTwo, lateArrival, lateLive, ranksReversed, startsAtTwo, oneStation, eightStations, paperCases}
+use Rattle.text.specs.Ascii.{ascii}
+use Rattle.plan_model.specs.Cases.{_prints_, isPrinted}
+use Rattle.claims.specs.WorkedCases.{paperTable}
+use Rattle.claims.proofs.Claims.{claims}
+
+-- ---- the cases of the counter, in document 01's order, and plan's two
+counter : Hold firstTwo × Hold lateArrival × Hold lateLive × Hold ranksReversed × Hold startsAtTwo × Hold oneStation × Hold eightStations
+unfolding paperTable paperCases
+counter =
+    let c = claims .worked-cases in
+    (c .0, c .1 .0, c .1 .1 .0, c .1 .1 .1 .0, c .1 .1 .1 .1 .0, c .1 .1 .1 .1 .1 .0, c .1 .1 .1 .1 .1 .1 .0)
+
+plans : (isPrinted (ascii "2\n10 10 2 3\n8 8 1 2\n" prints ascii "task base response verdict\n1 5 7 on-time\n2 4 7 on-time\n") ≡ true) × (isPrinted (ascii "2\n10 10 2 3\n8 7 1 2\n" prints ascii "task base response verdict\n1 5 7 on-time\n2 4 7 late\n") ≡ true)
+unfolding paperTable paperCases
+plans = let c = claims .worked-cases .1 .1 .1 .1 .1 .1 .1 in (c .0, c .1 .0)
+
+-- ---- their rows: an offer with its number, ticket, tick and margin; an advance with the ticket out and the clock
+abbrev rowAt : List Row → ℕ → Row
+rowAt rows k = getD rows k inStep
+
+abbrev offered : List ℕ → ℕ → ℕ → ℕ → Row
+offered block ticket tick margin = gives (offering block) 0 (record { ticket = ticket; tick = tick; margin = pos margin })
+
+abbrev declinedBy : List ℕ → ℕ → ℕ → Row
+declinedBy block number below = gives (offering block) number (record { ticket = 0; tick = 0; margin = negsuc below })
+
+abbrev advanced : ℕ → ℕ → Row
+advanced ticket clock = gives advancing 0 (record { ticket = ticket; tick = clock; margin = pos 0 })
+
+-- "X, due-in 20, at 0: ticket 1, tick 5, margin 15." "then Y at 0, due-in 7: ticket 2, tick 7, margin 0. X is out at 5, Y at 7."
+first-two : (rowAt firstTwo 0 ≡ opens 2) × (rowAt firstTwo 1 ≡ offered (X 20 0) 1 5 15) × (rowAt firstTwo 4 ≡ offered (Y 7 5) 2 7 0) × (rowAt firstTwo 20 ≡ advanced 1 5) × (rowAt firstTwo 28 ≡ advanced 2 7) × (rowAt firstTwo 31 ≡ outs (5 ∷ 7 ∷ []))
+unfolding firstTwo accepts advances
+first-two = (refl, refl, refl, refl, refl, refl)
+
+-- "Y with due-in 6 instead: 11, margin -1."
+late-arrival : (rowAt lateArrival 1 ≡ offered (X 20 0) 1 5 15) × (rowAt lateArrival 2 ≡ declinedBy (Y 6 5) 11 0)
+unfolding lateArrival accepts late
+late-arrival = (refl, refl)
+
+-- "X with due-in 6, then Y with due-in 100: 12, margin -1."
+late-live : (rowAt lateLive 1 ≡ offered (X 6 0) 1 5 1) × (rowAt lateLive 2 ≡ declinedBy (Y 100 5) 12 0)
+unfolding lateLive accepts late
+late-live = (refl, refl)
+
+-- "as the first two but X rank 5, Y rank 0: Y out at 3, X at 6."
+ranks-reversed : (rowAt ranksReversed 1 ≡ offered (X 20 5) 1 5 15) × (rowAt ranksReversed 2 ≡ offered (Y 7 0) 2 7 0) × (rowAt ranksReversed 9 ≡ advanced 2 3) × (rowAt ranksReversed 22 ≡ outs (6 ∷ 3 ∷ []))
+unfolding ranksReversed accepts advances
+ranks-reversed = (refl, refl, refl, refl)
+
+-- "X at 0 with due-in 20, one advance, then Y with rank 0 and due-in 7: Y starts at 2, not 1." It is in service at no station at 2, and at station 2 at 3.
+starts-at-two : (rowAt startsAtTwo 2 ≡ advanced 0 1) × (rowAt startsAtTwo 5 ≡ offered (Y 7 0) 2 8 0) × (rowAt startsAtTwo 11 ≡ serving (0 ∷ 0 ∷ []) (0 ∷ 0 ∷ [])) × (rowAt startsAtTwo 14 ≡ serving (0 ∷ 1 ∷ []) (0 ∷ 2 ∷ []))
+unfolding startsAtTwo accepts advances
+starts-at-two = (refl, refl, refl, refl)
+
+-- "N = 1, cost 4: due-in 4 accepted, 3 gets 11."
+one-station : (rowAt oneStation 0 ≡ opens 1) × (rowAt oneStation 1 ≡ declinedBy (order 3 0 (4 ∷ [])) 11 0) × (rowAt oneStation 3 ≡ offered (order 4 0 (4 ∷ [])) 1 4 0)
+unfolding oneStation accepts late
+one-station = (refl, refl, refl)
+
+-- "N = 8, all costs 6,000: delay sum 48,000; due-in 0 gets 11."
+eight-stations : (rowAt eightStations 0 ≡ opens 8) × (rowAt eightStations 1 ≡ declinedBy (order 0 0 (replicate 8 6000)) 11 29999) × (rowAt eightStations 4 ≡ offered (order 48000 0 (replicate 8 6000)) 1 48000 0) × (rowAt eightStations 5 ≡ bounds (48000 ∷ []))
+unfolding eightStations accepts late
+eight-stations = (refl, refl, refl, refl)
