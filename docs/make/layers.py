@@ -31,7 +31,7 @@ plan_core   delay      call_laws   tick        soundness   soundness
 plan_text   claims     claims      tick        admission   image_text
 plan        claims     claims      dispatcher  dispatcher  inspect
 planners    auditor    auditor     firmware    firmware    workshop
-trials      cases      cases       soak        soak        probe
+trials      uses       cases       soak        soak        probe
 """
 COLUMNS = [144, 110, 126, 112, 140, 136]  # widths
 GAPS = [30, 12, 34, 12, 12]  # between the columns
@@ -39,7 +39,7 @@ MARGIN, ROW_GAP = 16, 26
 
 # A crate: its kind, and what it is.
 CRATES = {
-    "model": ("definition", "document 01 as definitions: the image, the calls, one tick, the history of a run, and demand 3's statement"),
+    "model": ("definition", "document 01 as definitions: the image, the calls, one tick, the history of a run, lists of calls, and the worked cases"),
     "lists": ("theorem", "laws of lists and signed numbers"),
     "text": ("code", "words and decimals as bytes"),
     "plan_model": ("definition", "plan as definitions, from the base of a task to the bytes printed, and what they mean"),
@@ -47,7 +47,8 @@ CRATES = {
     "delay": ("theorem", "due times hold, for every history"),
     "image_laws": ("theorem", "reading and writing undo each other"),
     "call_laws": ("theorem", "what a call gives and leaves"),
-    "claims": ("theorem", "what a stranger may rely on, in one record: due times over every list of calls, the next answer, progress, plan's figures"),
+    "claims": ("theorem", "what a stranger may rely on, in one record: due times over every list of calls, the next answer, each tick, progress, plan's figures"),
+    "uses": ("theorem", "each claim used in a definite case, in figures"),
     "image": ("code", "the image's bytes as a state, and back"),
     "soundness": ("code", "every clause of a sound image; questions 1 to 4"),
     "admission": ("code", "quote and offer: questions 6 to 12"),
@@ -98,6 +99,7 @@ NOTES = {
     "trials": "image_text",
     "cases": "trials dispatcher plan_text",
     "soak": "trials dispatcher",
+    "uses": "claims",
     "probe": "soundness plan_text",
 }
 

@@ -70,6 +70,8 @@ def main():
 
     os.makedirs(f"{TREE}/target")
     for name in ["crates", "crates.txt", "include", "firmware", "target/rlib", "target/stamp", "target/obj", "target/bin"]:
+        if name.startswith("target/"):
+            os.makedirs(name, exist_ok=True)
         os.symlink(os.path.abspath(name), f"{TREE}/{name}")
 
     expect(two, "rt staticlib dispatcher", "tests/run")
