@@ -216,7 +216,6 @@ FILES = [
         ("Cost and rank at a station", ["C: An order has, for each station"], ["cost", "rank"]),
         ("Waiting", ["T~ Each idle station with waiting orders"], ["Waits"]),
         ("Busy", ["I~ serving a live order that is at it, with ticks to go from 1 to its cost there"], ["Busy"]),
-        ("Rising", ["I~ live tickets at least 1, rising"], ["RisingBy", "Rising"]),
     ]),
     ("claims/specs/Progress.antt", "Progress", [
         ("Advances that are done", ["R~ an advance made next with a reply of 16 bytes returns 0"], ["advances", "AllWhole", "AllDone"]),
@@ -245,16 +244,9 @@ FILES = [
                                      "W~ an invented tick or margin (the delay sum)"], ["Judged"]),
         ("The image in step with the book", [FURTHER, "W~ with company taken from the history of calls and not from stored sums"], ["InStep", "ByHistory"]),
     ]),
-    ("image_laws/specs/InRange.antt", "Figures that fit their fields", [
-        ("Fields of one byte, of two and of four", ["I~ eight ranks (1 each); eight costs (2 each)", "I~ clock (4 bytes)"],
-         ["byteLimit", "halfLimit", "wordLimit"]),
-        ("Bytes", ["C~ with numbers and byte buffers"], ["Below"]),
-        ("A row of eight", ["I~ eight costs (2 each); the company's largest cost at each station (2 each)"], ["Row"]),
-        ("A station's entry", ["I~ ticket in service or 0 (4), ticks to go (2)"], ["ServiceInRange"]),
-        ("A record", ["I~ ticket, acceptance tick, due tick, sum of the company's largest costs (4 each); station (1); zero (3); eight ranks (1 each); eight"
-                      " costs (2 each); the company's largest cost at each station (2 each)"], ["OrderInRange"]),
-        ("A state", ["I~ then N, live count, and a zero byte; clock (4 bytes); next ticket (4)", "I~ Then eight station entries", "I~ Then 32 records"],
-         ["InRange"]),
+    ("image_laws/specs/InRange.antt", "Bytes", [
+        ("Fields of one byte", ["I~ eight ranks (1 each)"], ["byteLimit"]),
+        ("Every entry below a limit", ["C~ with numbers and byte buffers"], ["Below"]),
     ]),
     ("image_laws/specs/Usable.antt", "Questions 1 to 4, as facts", [
         ("What is lent is usable", ["Q: Is the lent reply", "Q: Is the image", "Q: Mark and version", "Q: Image sound?"], ["Usable"]),
@@ -312,23 +304,12 @@ FILES = [
     ("claims/specs/Declines.antt", "Declines", [
         ("What a decline leaves", ["Q: Declined", "Q: After 1", "Q: Every decline"], ["DeclinedAt", "Declines"]),
     ]),
-    ("image_laws/specs/SoundFacts.antt", "Soundness, as facts", [
-        ("The company's largest cost at a station", ["I~ the company's largest cost at each station (2 each)"], ["maximum"]),
-        ("A live order", ["I~ live tickets at least 1",
-                          "I~ acceptance at most the clock; due tick 1 to 60,000 after acceptance and at most 4,000,000,000; station 1 to N; costs in range;"
-                          " each maximum at least the own cost and at most 6,000; the sum at least the own largest cost; the order on time; fields beyond N"
-                          " zero"], ["SoundOrder"]),
-        ("A state", ["I~ N 1 to 8; live at most 32; clock at most 4,000,000,000",
-                     "I~ live tickets at least 1, rising, and below the next ticket where that is not 0",
-                     "I~ fields beyond N zero; each station idle (0, 0) or serving a live order that is at it, with ticks to go from 1 to its cost there"],
-         ["SoundState"]),
-        ("The facts, and figures that fit", ["I: Bytes 0 to 2", "I: Sound means"], ["SoundInRange"]),
-    ]),
-    ("image_laws/specs/Fresh.antt", "A fresh image is sound", [
-        ("For each N", [FURTHER, "Q~ open gives zeros and a fresh image (clock 0, next ticket 1)", "Q: Image sound?"], ["FreshSoundAt", "FreshSound"]),
-    ]),
     ("image_laws/specs/SoundImage.antt", "An image that the next call can use", [
         ("Whole, marked and sound", ["Q: Is the image", "Q: Mark and version", "Q: Image sound?"], ["SoundImage"]),
+    ]),
+    ("call_laws/specs/OpenExact.antt", "What an open returns, gives and leaves", [
+        ("Questions 1, 2 and 14", ["Q: Is the lent reply", "Q: Is the image", "Q: N from 1 to 8?"], ["Openable"]),
+        ("A done open", ["Q~ Open takes 1, 2, 14", "Q~ open gives zeros and a fresh image (clock 0, next ticket 1)"], ["OpenedAt", "OpensFresh"]),
     ]),
     ("call_laws/specs/OfferKept.antt", "What an offer and a quote leave", [
         ("A done offer", FURTHER, ["OfferKeepsSound"]),
@@ -456,7 +437,6 @@ WHOLE = {
     "model/specs/DelayBound.antt": ["D: For an accepted order T", "D: Members that are out", "D: Delay sum of T", "D: With N = 1", "D: T is on time",
                                     "D: Margin is"],
     "model/specs/Soundness.antt": ["I: Sound means"],
-    "image_laws/specs/SoundFacts.antt": ["I: Sound means"],
     "plan_model/specs/Plan.antt": ["S: Plan reads a table", "S: The standing table is", "S: Plan fills base", "S: It declines N by 14", "S: Costs beyond N"],
     "plan_model/specs/Response.antt": ["S: Response: begin with", "S: The repetition ends", "S: On time means"],
     "plan_model/specs/Input.antt": ["S: The plan program reads", "S: Its questions"],

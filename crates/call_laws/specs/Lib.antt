@@ -1,3 +1,5 @@
+-- What holds of every open.
+pub mod OpenExact
 -- What holds of every offer and quote.
 pub mod Considered
 pub mod OfferExact

@@ -1,3 +1,4 @@
 // Theorems only: what holds of the calls on any image, whatever is lent. Statements are in specs/, proofs in proofs/.
+pub mod opens; // every open
 pub mod offers; // every offer and quote
 pub mod advances; // every advance

@@ -2,7 +2,7 @@
 use Rattle.plan_model.proofs.Meaning.{meaning}
 use Rattle.plan_model.proofs.Cases.{chapter-six-holds, largest-response-holds}
 use Rattle.plan_model.proofs.Leaves.{leaves, not-read}
-use Rattle.image_laws.proofs.Fresh.{fresh-sound}
+use Rattle.call_laws.proofs.opens.Exact.{opens-fresh}
 use Rattle.call_laws.proofs.offers.Exact.{exact}
 use Rattle.call_laws.proofs.offers.Kept.{offer-keeps-sound, quote-gives-offer}
 use Rattle.call_laws.proofs.advances.Exact.{advance-numbers}
@@ -32,7 +32,7 @@ claims =
       served-over-runs = after-every-list ServedInFull served-of;
       advance-numbers = advance-numbers;
       declines = declines;
-      opens-fresh = fresh-sound;
+      opens-fresh = opens-fresh;
       offers-keep-sound = offer-keeps-sound;
       advances-keep-sound = advance-keeps-sound;
       plan-means = meaning;

@@ -8,7 +8,7 @@ use Prim.Native.Nat.{ℕ}
 use Rattle.plan_model.specs.declared.Task.{Task}
 use Rattle.plan_model.specs.Meaning.{Meaning, Leaves, NotRead}
 use Rattle.plan_model.specs.Cases.{isPrinted, chapterSix, largestResponse}
-use Rattle.image_laws.specs.Fresh.{FreshSound}
+use Rattle.call_laws.specs.OpenExact.{OpensFresh}
 use Rattle.call_laws.specs.OfferExact.{Exact}
 use Rattle.call_laws.specs.OfferKept.{OfferKeepsSound, QuoteGivesOffer}
 use Rattle.call_laws.specs.AdvanceExact.{AdvanceNumbers}
@@ -41,8 +41,9 @@ pub record Claims : Type 0 where
   pub advance-numbers : AdvanceNumbers
   -- Demand 1: what a decline leaves, by any of the calls.
   pub declines : Declines
+  -- "open gives zeros and a fresh image (clock 0, next ticket 1)"
+  pub opens-fresh : OpensFresh
   -- Demand 1, from any sound image and not only from those that runs reach: a done call leaves a sound one.
-  pub opens-fresh : FreshSound
   pub offers-keep-sound : OfferKeepsSound
   pub advances-keep-sound : AdvanceKeepsSound
   -- Plan: what response and verdict of every task of a done plan mean, the thesis's own example, and a table with the largest response there is.

@@ -1,4 +1,5 @@
--- A use of what an offer and a quote return, give and leave, on a definite image: an order that is taken, one that is late, one that would delay a live order.
+-- A use of what an offer and a quote return, give and leave, on a definite image: an order that is taken, one that is late, one that would delay a live order;
+-- of a done open; and of what each call leaves when it is declined.
 use mathlib.Core.Path.{_≡_, refl, sym, ap, subst, _∙_}
 use mathlib.Core.Logic.{_⊎_, inl, inr}
 use mathlib.Core.Bool.{true}
@@ -10,9 +11,8 @@ use lib.IntN.{ℤ, pos, negsuc}
 use lib.Signed.{mag, ltZ}
 use borrow.Author.Tests.{leb-true}
 use Rattle.model.specs.declared.Order.{Order}
-use Rattle.model.specs.declared.Service.{Service}
 use Rattle.model.specs.Bytes.{word, fourBytes, bits32}
-use Rattle.model.specs.State.{State, idle, fresh}
+use Rattle.model.specs.State.{State}
 use Rattle.model.specs.Layout.{clockAt}
 use Rattle.model.specs.Image.{decode}
 use Rattle.model.specs.Admission.{blockOf, arrival, joinedBy, joinedLive}
@@ -20,13 +20,13 @@ use Rattle.model.specs.Calls.{opening, quoting, offering, advancing}
 use Rattle.model.specs.Runs.{started, outcome, afterCall, afterAll}
 use Rattle.model.specs.Table.{readRow, lent}
 use Rattle.model.specs.Cases.{X, Y}
-use Rattle.schedule.specs.Valid.{serving, Busy}
 use Rattle.image_laws.specs.InRange.{byteLimit, Below}
+use Rattle.call_laws.specs.OpenExact.{OpenedAt}
 use Rattle.call_laws.specs.Considered.{Considered}
 use Rattle.call_laws.specs.OfferExact.{InTime, Late, marginOf, ExactAt}
 use Rattle.call_laws.specs.OfferKept.{QuotedAt}
 use Rattle.claims.proofs.Claims.{claims}
-use Rattle.uses.specs.DefiniteLists.{someReply, opened, oneCalls, one, Z}
+use Rattle.uses.specs.DefiniteLists.{someImage, someReply, opened, oneCalls, one, Z}
 use Rattle.uses.proofs.Words.{Figure, Bytes, Yes, No, of-one, of-two, to-station, beyond, least-is, all-below, differ}
 
 -- The state that the image says, and its live order with place i.
@@ -201,31 +201,29 @@ kept =
     let k = claims .offers-keep-sound (one .image) (Y 7 5) someReply one-bytes (all-below 256 (Y 7 5) (omega arith) (refl {a = true})) refl in
     (k .whole, k .bytes 0, k .is-marked, k .is-sound, ap (λ (s : State). s .next) (k .says))
 
--- ---- a fresh image is sound and says the fresh state, at 2 stations and at 8
-fresh-says : Yes × Figure 0 × Figure 1 × Yes × Figure 8
-unfolding readRow opened oneCalls one X Y Z started afterCall outcome afterAll
-fresh-says =
-    let two = claims .opens-fresh 2 (omega arith) (omega arith) in
-    let eight = claims .opens-fresh 8 (omega arith) (omega arith) in
-    (two .image, ap (λ (s : State). s .clock) (two .read), ap (λ (s : State). s .next) (two .read), eight .image, ap (λ (s : State). s .n) (eight .read))
+-- ---- a done open: when it is done, its reply of zeros, and a sound image that says the fresh state, at 2 stations and at 8
+opened-at : (n : ℕ) → OpenedAt someImage n someReply
+opened-at n = claims .opens-fresh someImage n someReply
 
--- The clauses of soundness as facts about it: N, the live count and the clock; an entry beyond N, and one of a station, which is idle since nobody is live.
-fresh-facts : (1 ≤ 2) × (2 ≤ 8) × (0 ≤ 32) × (0 ≤ 4000000000) × Figure 0 × Figure 0
-unfolding readRow opened oneCalls one X Y Z started afterCall outcome afterAll
-fresh-facts =
-    let f = claims .opens-fresh 2 (omega arith) (omega arith) .state .facts in
-    (f .n-low, f .n-high, f .live, f .clock, ap (λ (e : Service). e .ticket) (f .idle-beyond 3 (omega arith)), idle-one (f .services 1 (omega arith) (omega arith)))
-  where
-    idle-one : (serving (fresh 2) 1 ≡ idle) ⊎ Busy (fresh 2) 1 → Figure 0
-    idle-one (inl free) = ap (λ (e : Service). e .ticket) free
-    idle-one (inr busy) = absurd (let w : 1 ≤ 0 = busy .some-left in let z : ⊥ = omega (arith, w) in z)
+opened-asked : Figure 16 × Figure 2128 × (1 ≤ 2) × (2 ≤ 8)
+unfolding readRow
+opened-asked = let o = opened-at 2 .done .only refl in (o .reply-whole, o .image-whole, o .n-low, o .n-high)
 
-fresh-fits : (2 < 256) × (0 < 4294967296) × (1 < 4294967296) × Figure 8 × (0 < 4294967296) × (0 < 65536) × (0 ≤ 32)
-unfolding readRow opened oneCalls one X Y Z started afterCall outcome afterAll
-fresh-fits =
-    let r = claims .opens-fresh 2 (omega arith) (omega arith) .state .in-range in
-    let e = r .services idle (List·Memᴰ·head refl) in
-    (r .n, r .clock, r .next, r .eight, e .ticket, e .left, r .live)
+opened-back : Figure 0 × Figure 0
+unfolding readRow
+opened-back =
+    (opened-at 2 .done .if (record { reply-whole = refl; image-whole = refl {a = 2128}; n-low = omega arith; n-high = omega arith }), opened-at 8 .done .if (record { reply-whole = refl; image-whole = refl {a = 2128}; n-low = omega arith; n-high = omega arith }))
+
+opened-gives : Bytes (replicate 16 0) × Bytes (replicate 16 0)
+unfolding readRow
+opened-gives = (opened-at 2 .given refl, opened-at 8 .given refl)
+
+opened-left : (Figure 2128 × (87 < 256) × Yes × Yes × Figure 0 × Figure 1) × (Yes × Yes × Figure 8)
+unfolding readRow
+opened-left =
+    let two = opened-at 2 .left refl in
+    let eight = opened-at 8 .left refl in
+    ((two .whole, two .bytes 0, two .is-marked, two .is-sound, ap (λ (s : State). s .clock) (two .says), ap (λ (s : State). s .next) (two .says)), (eight .is-marked, eight .is-sound, ap (λ (s : State). s .n) (eight .says)))
 
 -- ---- what declines leave: of the image (its clock), and of the reply, whole; with 11 and 12 all but the margin, which stands above
 declined-open : Figure 1 × Figure 16 × Bytes (14 ∷ replicate 11 0) × Bytes (14 ∷ replicate 15 0)

@@ -1,0 +1,1 @@
+// Theorems only: what holds of every open, whatever is lent.
