@@ -49,7 +49,7 @@ chapterSix =
     ascii "3\n5 5 1 1 1\n5 5 1 1 1\n"
     prints ascii "task base response verdict\n1 3 4 on-time\n2 3 4 on-time\n"
 
--- The largest response there is: a base of 48,000 that is not late, beside 31 tasks of period 1 and cost 6,000. Those are late with their bases.
+-- The largest response there is: of a task whose base, 48,000, is below its deadline, beside 31 tasks of period 1 and cost 6,000. Those end with their bases.
 unfoldable pub lateLines : List ℕ
 unfolding concat upward digits decimal
 lateLines = concat (upward 2 31 (λ k. decimal k ++ ascii " 48000 48000 late\n"))
