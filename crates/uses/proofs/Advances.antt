@@ -26,15 +26,11 @@ use Rattle.claims.proofs.Claims.{claims}
 use Rattle.uses.specs.DefiniteLists.{someImage, someReply, opened, oneCalls, one, longCalls, long, endImage}
 use Rattle.uses.proofs.Words.{Figure, Bytes, Yes, of-one, all-below, differ}
 use Rattle.uses.proofs.ByHistory.{one-allowed, long-allowed}
-use Rattle.uses.proofs.Offers.{one-bytes}
+use Rattle.uses.proofs.Offers.{one-bytes, one-usable}
 
 -- ---- 0 while the clock has not come to its end, and 13 once it has
 at-one : ExactAt (one .image) someReply (decode (one .image))
 at-one = claims .advance-numbers (one .image) someReply
-
-one-usable : Usable (one .image) someReply
-unfolding readRow opened oneCalls one longCalls long endImage X order started afterCall outcome afterAll
-one-usable = record { reply-whole = refl; image-whole = refl {a = 2128}; image-marked = refl {a = true}; image-sound = refl {a = true} }
 
 done : Figure 16 × Figure 2128 × Yes × Yes × (1 < 4000000000)
 unfolding readRow opened oneCalls one longCalls long endImage X order started afterCall outcome afterAll

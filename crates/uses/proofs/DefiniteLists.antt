@@ -3,8 +3,8 @@
 -- here rests on the proof of demand 3.
 use mathlib.Core.Path.{_≡_, refl, sym, subst, _∙_}
 use mathlib.Core.Bool.{true}
-use mathlib.Core.Logic.{_≢_, inl, inr}
-use mathlib.Core.List.{List, [], _∷_, List·Memᴰ, List·Memᴰ·not-nil, List·Memᴰ·cases-cons}
+use mathlib.Core.Logic.{_≢_}
+use mathlib.Core.List.{List, [], _∷_, List·Memᴰ}
 use mathlib.Core.Option.{none, some, Option·some-injective, Option·some-ne-none}
 use Prim.Native.Nat.{ℕ, suc}
 use native.Mathlib.Omega.{arith}
@@ -18,6 +18,7 @@ use Rattle.model.specs.Table.{readRow}
 use Rattle.model.specs.Cases.{order, X, Y}
 use Rattle.claims.specs.Demand3.{InTime, Kept}
 use Rattle.uses.specs.DefiniteLists.{someImage, someReply, opened, mixedCalls, reversedCalls, halfwayCalls, eightCalls, mixed, reversed, halfway, eight}
+use Rattle.uses.proofs.Words.{of-two}
 
 -- The order with place i among those accepted in a run.
 abbrev pub entry : Run → ℕ → Entry
@@ -37,13 +38,6 @@ not-out {t = t} q = absurd (Option·some-ne-none t (sym q))
 advance-by-length : (image reply other : List ℕ) → length reply ≡ length other → advanceCall image reply .number ≡ advanceCall image other .number
 unfolding advanceCall result advanceNumber replyQuestion
 advance-by-length image reply other e = rw e
-
-two-orders : (run : Run) (x y : Entry) → InTime run x → InTime run y → (e : Entry) → List·Memᴰ e (x ∷ y ∷ []) → InTime run e
-two-orders run x y p q e m =
-    elim (List·Memᴰ·cases-cons m) [
-      | inl i ↦ subst (InTime run) (sym i) p
-      | inr r ↦ elim (List·Memᴰ·cases-cons r) [ inl i ↦ subst (InTime run) (sym i) q | inr z ↦ absurd (List·Memᴰ·not-nil z) ]
-    ]
 
 -- A number that is computed is another than 0.
 declined : {number : ℕ} (k : ℕ) → number ≡ suc k → number ≢ 0
@@ -81,7 +75,7 @@ unfolding readRow opened mixedCalls mixed X Y started afterCall outcome afterAll
 mixed-kept =
     record {
       opened = refl {a = 0};
-      orders = λ e m. two-orders mixed (entry mixed 0) (entry mixed 1) mixed-x mixed-y e (subst (λ (l : List Entry). List·Memᴰ e l) mixed-two m);
+      orders = λ e m. of-two (InTime mixed) (entry mixed 0) (entry mixed 1) mixed-x mixed-y e (subst (λ (l : List Entry). List·Memᴰ e l) mixed-two m);
       replies = (λ e. refl {a = 1}, (tt, (tt, (tt, (λ e. refl {a = 2}, (λ e. (refl {a = 0}, refl {a = 1}), (λ e. (refl {a = 0}, refl {a = 2}), (λ e. (refl {a = 0}, refl {a = 3}), (λ e. (refl {a = 0}, refl {a = 4}), (λ e. (refl {a = 1}, refl {a = 5}), (λ e. (refl {a = 0}, refl {a = 6}), (λ e. (refl {a = 2}, refl {a = 7}), tt))))))))))));
     }
 
@@ -117,7 +111,7 @@ unfolding readRow opened reversedCalls reversed X Y started afterCall outcome af
 reversed-kept =
     record {
       opened = refl {a = 0};
-      orders = λ e m. two-orders reversed (entry reversed 0) (entry reversed 1) reversed-x reversed-y e (subst (λ (l : List Entry). List·Memᴰ e l) reversed-two m);
+      orders = λ e m. of-two (InTime reversed) (entry reversed 0) (entry reversed 1) reversed-x reversed-y e (subst (λ (l : List Entry). List·Memᴰ e l) reversed-two m);
       replies = (λ e. refl {a = 1}, (λ e. refl {a = 2}, (λ e. (refl {a = 0}, refl {a = 1}), (λ e. (refl {a = 0}, refl {a = 2}), (λ e. (refl {a = 2}, refl {a = 3}), (λ e. (refl {a = 0}, refl {a = 4}), (λ e. (refl {a = 0}, refl {a = 5}), (λ e. (refl {a = 1}, refl {a = 6}), tt))))))));
     }
 
@@ -153,7 +147,7 @@ unfolding readRow opened halfwayCalls halfway X Y started afterCall outcome afte
 halfway-kept =
     record {
       opened = refl {a = 0};
-      orders = λ e m. two-orders halfway (entry halfway 0) (entry halfway 1) halfway-x halfway-y e (subst (λ (l : List Entry). List·Memᴰ e l) halfway-two m);
+      orders = λ e m. of-two (InTime halfway) (entry halfway 0) (entry halfway 1) halfway-x halfway-y e (subst (λ (l : List Entry). List·Memᴰ e l) halfway-two m);
       replies = (λ e. refl {a = 1}, (λ e. refl {a = 2}, (λ e. (refl {a = 0}, refl {a = 1}), tt)));
     }
 
@@ -189,6 +183,6 @@ unfolding readRow opened eightCalls eight order started afterCall outcome afterA
 eight-kept =
     record {
       opened = refl {a = 0};
-      orders = λ e m. two-orders eight (entry eight 0) (entry eight 1) eight-first eight-second e (subst (λ (l : List Entry). List·Memᴰ e l) eight-two m);
+      orders = λ e m. of-two (InTime eight) (entry eight 0) (entry eight 1) eight-first eight-second e (subst (λ (l : List Entry). List·Memᴰ e l) eight-two m);
       replies = (λ e. refl {a = 1}, (λ e. refl {a = 2}, (λ e. (refl {a = 0}, refl {a = 1}), (λ e. (refl {a = 0}, refl {a = 2}), (λ e. (refl {a = 0}, refl {a = 3}), (λ e. (refl {a = 0}, refl {a = 4}), (λ e. (refl {a = 0}, refl {a = 5}), (λ e. (refl {a = 0}, refl {a = 6}), (λ e. (refl {a = 0}, refl {a = 7}), (λ e. (refl {a = 1}, refl {a = 8}), tt))))))))));
     }

@@ -1,6 +1,6 @@
 -- Demand 3 of definite lists, computed; then the uses, claim by claim.
-pub mod DefiniteLists
 pub mod Words
+pub mod DefiniteLists
 pub mod DueTimes
 pub mod Progress
 pub mod ByHistory

@@ -2,184 +2,181 @@
 -- of a done open; and of what each call leaves when it is declined.
 use mathlib.Core.Path.{_≡_, refl, sym, ap, subst, _∙_}
 use mathlib.Core.Logic.{_⊎_, inl, inr}
-use mathlib.Core.Bool.{true}
-use mathlib.Core.List.{List, [], _∷_, _++_, List·Memᴰ·head, List·Memᴰ·tail}
-use Prim.Native.Nat.{ℕ, _≤_, _<_}
+use mathlib.Core.Bool.{true, false}
+use mathlib.Core.List.{List, [], _∷_, _++_, map, List·Memᴰ·head}
+use Prim.Native.Nat.{ℕ, _+_, _≤_, _<_}
 use native.Mathlib.Omega.{arith}
-use lib.ListN.{getD, take, replicate}
-use lib.IntN.{ℤ, pos, negsuc}
+use lib.ListN.{length, getD, take, drop, replicate}
+use lib.IntN.{ℤ, pos}
 use lib.Signed.{mag, ltZ}
 use borrow.Author.Tests.{leb-true}
 use Rattle.model.specs.declared.Order.{Order}
+use Rattle.model.specs.Limits.{lastTick}
+use Rattle.model.specs.Lists.{within, isZero, at, part, all}
 use Rattle.model.specs.Bytes.{word, fourBytes, bits32}
 use Rattle.model.specs.State.{State}
-use Rattle.model.specs.Layout.{clockAt}
-use Rattle.model.specs.Image.{decode}
-use Rattle.model.specs.Admission.{blockOf, arrival, joinedBy, joinedLive}
-use Rattle.model.specs.Calls.{opening, quoting, offering, advancing}
+use Rattle.model.specs.Layout.{clockAt, blockSize, replyTickAt, replyMarginAt}
+use Rattle.model.specs.Image.{marked, decode}
+use Rattle.model.specs.Soundness.{sound}
+use Rattle.model.specs.Admission.{blockOf, dueOf, arrival, joinedBy, joinedLive}
+use Rattle.model.specs.Calls.{offerNumber, offerCall, opening, quoting, offering, advancing}
 use Rattle.model.specs.Runs.{started, outcome, afterCall, afterAll}
 use Rattle.model.specs.Table.{readRow, lent}
 use Rattle.model.specs.Cases.{X, Y}
+use Rattle.schedule.specs.Valid.{_∈_}
 use Rattle.image_laws.specs.InRange.{byteLimit, Below}
+use Rattle.image_laws.specs.Usable.{Usable}
 use Rattle.call_laws.specs.OpenExact.{OpenedAt}
 use Rattle.call_laws.specs.Considered.{Considered}
-use Rattle.call_laws.specs.OfferExact.{InTime, Late, marginOf, ExactAt}
+use Rattle.call_laws.specs.OfferExact.{boundTickOf, InTime, Late, marginOf, ExactAt}
 use Rattle.call_laws.specs.OfferKept.{QuotedAt}
 use Rattle.claims.proofs.Claims.{claims}
 use Rattle.uses.specs.DefiniteLists.{someImage, someReply, opened, oneCalls, one, Z}
-use Rattle.uses.proofs.Words.{Figure, Bytes, Yes, No, of-one, of-two, to-station, beyond, least-is, all-below, differ}
+use Rattle.uses.proofs.Words.{Figure, Bytes, Yes, No, of-one, ranged, zero-after, smaller, smaller-of-two, all-below, differ}
 
--- The state that the image says, and its live order with place i.
-abbrev order : ℕ → Order
-order i = getD (decode (one .image) .orders) i (arrival (decode (one .image)) (blockOf []))
+-- ---- what is taken from `Exact`, of any image of bytes with one live order, and any block
+module _ (image block : List ℕ) where
+  abbrev s : State
+  s = decode image
 
-at-one : (block : List ℕ) → ExactAt (one .image) block someReply (decode (one .image)) (blockOf block)
-at-one block = claims .exact (one .image) block someReply
+  abbrev costs : List ℕ
+  costs = blockOf block .costs
 
+  abbrev newcomer : Order
+  newcomer = arrival s (blockOf block)
+
+  -- The live order, with the arrival in its set.
+  abbrev other : Order
+  other = joinedBy (blockOf block) (getD (s .orders) 0 newcomer)
+
+  abbrev OnlyOne : Type 0
+  OnlyOne = s .orders ≡ getD (s .orders) 0 newcomer ∷ []
+
+  abbrev number : ℕ
+  number = offerNumber image block someReply
+
+  -- What was asked before 11, of the costs at the first station and at the last, and beyond it.
+  abbrev Asked : Type 0
+  Asked =
+      ((length someReply ≡ 16) × (length image ≡ 2128) × (marked image ≡ true) × (sound image ≡ true)) × (length block ≡ 28)
+      × ((1 ≤ at 0 costs 1) × (at 0 costs 1 ≤ 6000) × (1 ≤ at 0 costs (s .n)) × (at 0 costs (s .n) ≤ 6000) × (at 0 costs (s .n + 1) ≡ 0) × (at 0 (blockOf block .ranks) (s .n + 1) ≡ 0)
+      × (blockOf block .«due_in» ≤ 60000) × (dueOf (s .clock) (blockOf block) ≤ 4000000000) × (1 ≤ s .next) × (length (s .orders) < 32))
+
+  asked : 1 ≤ s .n → Considered image block someReply → Asked
+  asked some c =
+      let u = c .usable in
+      let f = c .fitting in
+      ((u .reply-whole, u .image-whole, u .image-marked, u .image-sound), c .block-whole, (f .cost-low 1 (omega arith) some, f .cost-high 1 (omega arith) some, f .cost-low (s .n) some (omega arith), f .cost-high (s .n) some (omega arith), f .cost-beyond (s .n + 1) (omega arith), f .rank-beyond (s .n + 1) (omega arith), f .due-in, f .due-tick, f .ticket-left, f .room))
+
+  -- And the way back, by computed tests.
+  considered : Usable image someReply → length block ≡ blockSize → s .n ≤ length costs → all (within 1 6000) (take (s .n) costs) ≡ true → all isZero (drop (s .n) costs) ≡ true → all isZero (drop (s .n) (blockOf block .ranks)) ≡ true → blockOf block .«due_in» ≤ 60000 → dueOf (s .clock) (blockOf block) ≤ lastTick → 1 ≤ s .next → length (s .orders) < 32 → Considered image block someReply
+  considered usable whole long range zero-costs zero-ranks due-in due-tick ticket room =
+      record {
+        usable = usable;
+        block-whole = whole;
+        fitting =
+            record {
+              cost-low = λ k low high. ranged 1 6000 (s .n) costs long range k low high .0;
+              cost-high = λ k low high. ranged 1 6000 (s .n) costs long range k low high .1;
+              cost-beyond = zero-after (s .n) costs zero-costs;
+              rank-beyond = zero-after (s .n) (blockOf block .ranks) zero-ranks;
+              due-in = due-in;
+              due-tick = due-tick;
+              ticket-left = ticket;
+              room = room;
+            };
+      }
+
+  module _ (bytes : Below byteLimit image) (one : OnlyOne) (x : ExactAt image block someReply s (blockOf block)) where
+    of-it : (P : Order → Type 0) → P (getD (s .orders) 0 newcomer) → (o : Order) → o ∈ s .orders → P o
+    of-it P p o m = of-one P (getD (s .orders) 0 newcomer) p o (subst (λ (l : List Order). o ∈ l) one m)
+
+    it-in : getD (s .orders) 0 newcomer ∈ s .orders
+    it-in = subst (λ (l : List Order). getD (s .orders) 0 newcomer ∈ l) (sym one) (List·Memᴰ·head refl)
+
+    the-two : newcomer ∷ joinedLive s (blockOf block) ≡ newcomer ∷ other ∷ []
+    unfolding joinedLive
+    the-two = ap (λ (l : List Order). newcomer ∷ map (joinedBy (blockOf block)) l) one
+
+    -- The margin given: the smaller of the two, as bytes; that it is a signed number of 32 bits; and its sign.
+    abbrev least : ℤ
+    least = smaller (marginOf (s .n) newcomer) (marginOf (s .n) other)
+
+    margin : (decided : (number ≡ 0) ⊎ (number ≡ 11) ⊎ (number ≡ 12)) → (part (offerCall image block someReply .reply) replyMarginAt 4 ≡ fourBytes (bits32 least)) × (mag least < 2147483648) × (number ≡ 0 → ltZ least (pos 0) ≡ false) × ((number ≡ 11) ⊎ (number ≡ 12) → ltZ least (pos 0) ≡ true)
+    margin decided =
+        let m = x .margin decided in
+        let t = m .smallest in
+        let is = smaller-of-two (marginOf (s .n)) newcomer other (m .given) (t .order) (subst (λ (l : List Order). t .order ∈ l) the-two (t .among)) (t .attained) (λ o q. t .least o (subst (λ (l : List Order). o ∈ l) (sym the-two) q)) in
+        (m .written ∙ ap (λ (z : ℤ). fourBytes (bits32 z)) is, subst (λ (z : ℤ). mag z < 2147483648) is (m .signed32 bytes), λ e. ap (λ (z : ℤ). ltZ z (pos 0)) (sym is) ∙ m .to-spare e, λ e. ap (λ (z : ℤ). ltZ z (pos 0)) (sym is) ∙ m .too-late e)
+
+    -- 0: both on time, the tick, the margin. And back.
+    taken : 1 ≤ s .n → number ≡ 0 → Asked × (InTime (s .n) newcomer × InTime (s .n) other) × (part (offerCall image block someReply .reply) replyTickAt 4 ≡ fourBytes (boundTickOf (s .n) newcomer)) × (part (offerCall image block someReply .reply) replyMarginAt 4 ≡ fourBytes (bits32 least)) × (mag least < 2147483648) × (ltZ least (pos 0) ≡ false)
+    taken some is =
+        let t = x .done .only is in
+        let m = margin (inl is) in
+        (asked some (t .0), (t .1, t .2 (getD (s .orders) 0 newcomer) it-in), x .tick is, m .0, m .1, m .2 is)
+
+    taken-back : Considered image block someReply → InTime (s .n) newcomer → InTime (s .n) other → number ≡ 0
+    taken-back c p q = x .done .if (c, p, of-it (λ (o : Order). InTime (s .n) (joinedBy (blockOf block) o)) q)
+
+    -- 11: the arrival is late. And back.
+    late : 1 ≤ s .n → number ≡ 11 → Asked × Late (s .n) newcomer × (part (offerCall image block someReply .reply) replyMarginAt 4 ≡ fourBytes (bits32 least)) × (mag least < 2147483648) × (ltZ least (pos 0) ≡ true)
+    late some is =
+        let t = x .late .only is in
+        let m = margin (inr (inl is)) in
+        (asked some (t .0), t .1, m .0, m .1, m .3 (inl is))
+
+    late-back : Considered image block someReply → Late (s .n) newcomer → number ≡ 11
+    late-back c p = x .late .if (c, p)
+
+    -- 12: the arrival is on time, and the live order would not be. And back.
+    delaying : 1 ≤ s .n → number ≡ 12 → Asked × InTime (s .n) newcomer × Late (s .n) other × (part (offerCall image block someReply .reply) replyMarginAt 4 ≡ fourBytes (bits32 least)) × (mag least < 2147483648) × (ltZ least (pos 0) ≡ true)
+    delaying some is =
+        let t = x .delaying .only is in
+        let m = margin (inr (inr is)) in
+        (asked some (t .0), t .1, of-it (λ (o : Order). Late (s .n) (joinedBy (blockOf block) o) → Late (s .n) other) (λ l. l) (t .2) (t .3) (t .4), m .0, m .1, m .3 (inr is))
+
+    delaying-back : Considered image block someReply → InTime (s .n) newcomer → Late (s .n) other → number ≡ 12
+    delaying-back c p q = x .delaying .if (c, p, getD (s .orders) 0 newcomer, it-in, q)
+
+-- ---- N = 2: X with due-in 9, and one advance
 pub one-bytes : Below byteLimit (one .image)
 unfolding readRow opened oneCalls one X Y Z started afterCall outcome afterAll
 one-bytes = all-below 256 (one .image) (omega arith) (refl {a = true})
 
--- ---- Y with due-in 7 is taken
-taken : (8 ≤ 8) × (7 ≤ 9)
+pub one-usable : Usable (one .image) someReply
 unfolding readRow opened oneCalls one X Y Z started afterCall outcome afterAll
-taken = let t = at-one (Y 7 5) .done .only refl in (t .1, t .2 (order 0) (List·Memᴰ·head refl))
+one-usable = record { reply-whole = refl; image-whole = refl {a = 2128}; image-marked = refl {a = true}; image-sound = refl {a = true} }
 
-taken-asked : Figure 16 × Figure 2128 × Yes × Yes × Figure 28 × (1 ≤ 1) × (1 ≤ 2) × (1 ≤ 6000) × (2 ≤ 6000) × Figure 0 × Figure 0 × (7 ≤ 60000) × (8 ≤ 4000000000) × (1 ≤ 2) × (1 < 32)
-unfolding readRow opened oneCalls one X Y Z started afterCall outcome afterAll
-taken-asked =
-    let c = at-one (Y 7 5) .done .only refl .0 in
-    let u = c .usable in
-    let f = c .fitting in
-    (u .reply-whole, u .image-whole, u .image-marked, u .image-sound, c .block-whole, f .cost-low 1 (omega arith) (omega arith), f .cost-low 2 (omega arith) (omega arith), f .cost-high 1 (omega arith) (omega arith), f .cost-high 2 (omega arith) (omega arith), f .cost-beyond 3 (omega arith), f .rank-beyond 3 (omega arith), f .due-in, f .due-tick, f .ticket-left, f .room)
+at-one : (block : List ℕ) → ExactAt (one .image) block someReply (decode (one .image)) (blockOf block)
+at-one block = claims .exact (one .image) block someReply
 
--- That the block may be considered, from figures alone.
-taken-considered : Considered (one .image) (Y 7 5) someReply
+-- Y with due-in 7: it has the bound 8, on which it is due; X has the bound 7 and is due at 9.
+one-taken : ((Figure 16 × Figure 2128 × Yes × Yes) × Figure 28 × ((1 ≤ 1) × (1 ≤ 6000) × (1 ≤ 2) × (2 ≤ 6000) × Figure 0 × Figure 0 × (7 ≤ 60000) × (8 ≤ 4000000000) × (1 ≤ 2) × (1 < 32))) × ((8 ≤ 8) × (7 ≤ 9)) × Bytes (8 ∷ 0 ∷ 0 ∷ 0 ∷ []) × Bytes (0 ∷ 0 ∷ 0 ∷ 0 ∷ []) × (0 < 2147483648) × No
 unfolding readRow opened oneCalls one X Y Z started afterCall outcome afterAll
-taken-considered =
-    record {
-      usable = record { reply-whole = refl; image-whole = refl {a = 2128}; image-marked = refl {a = true}; image-sound = refl {a = true} };
-      block-whole = refl;
-      fitting =
-          record {
-            cost-low = to-station 2 (λ c. 1 ≤ c) (blockOf (Y 7 5) .costs) (omega arith, (omega arith, tt));
-            cost-high = to-station 2 (λ c. c ≤ 6000) (blockOf (Y 7 5) .costs) (omega arith, (omega arith, tt));
-            cost-beyond = beyond 2 (blockOf (Y 7 5) .costs) (refl, (refl, (refl, (refl, (refl, (refl, tt))))));
-            rank-beyond = beyond 2 (blockOf (Y 7 5) .ranks) (refl, (refl, (refl, (refl, (refl, (refl, tt))))));
-            due-in = omega arith;
-            due-tick = leb-true _ _ (refl {a = true});
-            ticket-left = leb-true _ _ (refl {a = true});
-            room = leb-true _ _ (refl {a = true});
-          };
-    }
+one-taken = taken (one .image) (Y 7 5) one-bytes refl (at-one (Y 7 5)) (leb-true _ _ (refl {a = true})) refl
 
-taken-back : Figure 0
+one-taken-back : Figure 0
 unfolding readRow opened oneCalls one X Y Z started afterCall outcome afterAll
-taken-back = at-one (Y 7 5) .done .if (taken-considered, leb-true _ _ (refl {a = true}), of-one (λ (o : Order). InTime 2 (joinedBy (blockOf (Y 7 5)) o)) (order 0) (leb-true _ _ (refl {a = true})))
+one-taken-back = taken-back (one .image) (Y 7 5) one-bytes refl (at-one (Y 7 5)) (considered (one .image) (Y 7 5) one-usable refl (leb-true _ _ (refl {a = true})) (refl {a = true}) (refl {a = true}) (refl {a = true}) (leb-true _ _ (refl {a = true})) (leb-true _ _ (refl {a = true})) (leb-true _ _ (refl {a = true})) (leb-true _ _ (refl {a = true}))) (leb-true _ _ (refl {a = true})) (leb-true _ _ (refl {a = true}))
 
-taken-tick : Bytes (8 ∷ 0 ∷ 0 ∷ 0 ∷ [])
+-- Y with due-in 6 is due at 7.
+one-late : ((Figure 16 × Figure 2128 × Yes × Yes) × Figure 28 × ((1 ≤ 1) × (1 ≤ 6000) × (1 ≤ 2) × (2 ≤ 6000) × Figure 0 × Figure 0 × (6 ≤ 60000) × (7 ≤ 4000000000) × (1 ≤ 2) × (1 < 32))) × (7 < 8) × Bytes (255 ∷ 255 ∷ 255 ∷ 255 ∷ []) × (0 < 2147483648) × Yes
 unfolding readRow opened oneCalls one X Y Z started afterCall outcome afterAll
-taken-tick = at-one (Y 7 5) .tick refl
+one-late = late (one .image) (Y 6 5) one-bytes refl (at-one (Y 6 5)) (leb-true _ _ (refl {a = true})) refl
 
-taken-margin : Bytes (0 ∷ 0 ∷ 0 ∷ 0 ∷ []) × (0 < 2147483648) × No
+one-late-back : Figure 11
 unfolding readRow opened oneCalls one X Y Z started afterCall outcome afterAll
-taken-margin =
-    let m = at-one (Y 7 5) .margin (inl refl) in
-    let s = m .smallest in
-    let figure = least-is (marginOf 2) (arrival (decode (one .image)) (blockOf (Y 7 5)) ∷ joinedLive (decode (one .image)) (blockOf (Y 7 5))) (m .given) (s .order) (s .among) (s .attained) (s .least) (pos 0) (arrival (decode (one .image)) (blockOf (Y 7 5))) (List·Memᴰ·head refl) refl (of-two (λ (o : Order). (marginOf 2 o ≡ pos 0) ⊎ (ltZ (pos 0) (marginOf 2 o) ≡ true)) (arrival (decode (one .image)) (blockOf (Y 7 5))) (joinedBy (blockOf (Y 7 5)) (order 0)) (inl refl) (inr refl)) in
-    (m .written ∙ ap (λ (z : ℤ). fourBytes (bits32 z)) figure, subst (λ (z : ℤ). mag z < 2147483648) figure (m .signed32 one-bytes), ap (λ (z : ℤ). ltZ z (pos 0)) (sym figure) ∙ m .to-spare (refl))
+one-late-back = late-back (one .image) (Y 6 5) one-bytes refl (at-one (Y 6 5)) (considered (one .image) (Y 6 5) one-usable refl (leb-true _ _ (refl {a = true})) (refl {a = true}) (refl {a = true}) (refl {a = true}) (leb-true _ _ (refl {a = true})) (leb-true _ _ (refl {a = true})) (leb-true _ _ (refl {a = true})) (leb-true _ _ (refl {a = true}))) (leb-true _ _ (refl {a = true}))
 
--- ---- Y with due-in 6 is late
-late : 7 < 8
+-- Z has the bound 12 and is due at 101; X would have the bound 11.
+one-delaying : ((Figure 16 × Figure 2128 × Yes × Yes) × Figure 28 × ((1 ≤ 4) × (4 ≤ 6000) × (1 ≤ 4) × (4 ≤ 6000) × Figure 0 × Figure 0 × (100 ≤ 60000) × (101 ≤ 4000000000) × (1 ≤ 2) × (1 < 32))) × (12 ≤ 101) × (9 < 11) × Bytes (254 ∷ 255 ∷ 255 ∷ 255 ∷ []) × (1 < 2147483648) × Yes
 unfolding readRow opened oneCalls one X Y Z started afterCall outcome afterAll
-late = at-one (Y 6 5) .late .only refl .1
+one-delaying = delaying (one .image) Z one-bytes refl (at-one Z) (leb-true _ _ (refl {a = true})) refl
 
-late-asked : Figure 16 × Figure 2128 × Yes × Yes × Figure 28 × (1 ≤ 1) × (1 ≤ 2) × (1 ≤ 6000) × (2 ≤ 6000) × Figure 0 × Figure 0 × (6 ≤ 60000) × (7 ≤ 4000000000) × (1 ≤ 2) × (1 < 32)
+one-delaying-back : Figure 12
 unfolding readRow opened oneCalls one X Y Z started afterCall outcome afterAll
-late-asked =
-    let c = at-one (Y 6 5) .late .only refl .0 in
-    let u = c .usable in
-    let f = c .fitting in
-    (u .reply-whole, u .image-whole, u .image-marked, u .image-sound, c .block-whole, f .cost-low 1 (omega arith) (omega arith), f .cost-low 2 (omega arith) (omega arith), f .cost-high 1 (omega arith) (omega arith), f .cost-high 2 (omega arith) (omega arith), f .cost-beyond 3 (omega arith), f .rank-beyond 3 (omega arith), f .due-in, f .due-tick, f .ticket-left, f .room)
-
--- That the block may be considered, from figures alone.
-late-considered : Considered (one .image) (Y 6 5) someReply
-unfolding readRow opened oneCalls one X Y Z started afterCall outcome afterAll
-late-considered =
-    record {
-      usable = record { reply-whole = refl; image-whole = refl {a = 2128}; image-marked = refl {a = true}; image-sound = refl {a = true} };
-      block-whole = refl;
-      fitting =
-          record {
-            cost-low = to-station 2 (λ c. 1 ≤ c) (blockOf (Y 6 5) .costs) (omega arith, (omega arith, tt));
-            cost-high = to-station 2 (λ c. c ≤ 6000) (blockOf (Y 6 5) .costs) (omega arith, (omega arith, tt));
-            cost-beyond = beyond 2 (blockOf (Y 6 5) .costs) (refl, (refl, (refl, (refl, (refl, (refl, tt))))));
-            rank-beyond = beyond 2 (blockOf (Y 6 5) .ranks) (refl, (refl, (refl, (refl, (refl, (refl, tt))))));
-            due-in = omega arith;
-            due-tick = leb-true _ _ (refl {a = true});
-            ticket-left = leb-true _ _ (refl {a = true});
-            room = leb-true _ _ (refl {a = true});
-          };
-    }
-
-late-back : Figure 11
-unfolding readRow opened oneCalls one X Y Z started afterCall outcome afterAll
-late-back = at-one (Y 6 5) .late .if (late-considered, leb-true _ _ (refl {a = true}))
-
-late-margin : Bytes (255 ∷ 255 ∷ 255 ∷ 255 ∷ []) × (0 < 2147483648) × Yes
-unfolding readRow opened oneCalls one X Y Z started afterCall outcome afterAll
-late-margin =
-    let m = at-one (Y 6 5) .margin (inr (inl refl)) in
-    let s = m .smallest in
-    let figure = least-is (marginOf 2) (arrival (decode (one .image)) (blockOf (Y 6 5)) ∷ joinedLive (decode (one .image)) (blockOf (Y 6 5))) (m .given) (s .order) (s .among) (s .attained) (s .least) (negsuc 0) (arrival (decode (one .image)) (blockOf (Y 6 5))) (List·Memᴰ·head refl) refl (of-two (λ (o : Order). (marginOf 2 o ≡ negsuc 0) ⊎ (ltZ (negsuc 0) (marginOf 2 o) ≡ true)) (arrival (decode (one .image)) (blockOf (Y 6 5))) (joinedBy (blockOf (Y 6 5)) (order 0)) (inl refl) (inr refl)) in
-    (m .written ∙ ap (λ (z : ℤ). fourBytes (bits32 z)) figure, subst (λ (z : ℤ). mag z < 2147483648) figure (m .signed32 one-bytes), ap (λ (z : ℤ). ltZ z (pos 0)) (sym figure) ∙ m .too-late (inl refl))
-
--- ---- Z would be on time, and X late
-delaying : (12 ≤ 101) × (9 < 11)
-unfolding readRow opened oneCalls one X Y Z started afterCall outcome afterAll
-delaying =
-    let d = at-one Z .delaying .only refl in
-    (d .1, of-one (λ (o : Order). Late 2 (joinedBy (blockOf Z) o) → 9 < 11) (order 0) (λ is. is) (d .2) (d .3) (d .4))
-
-delaying-asked : Figure 16 × Figure 2128 × Yes × Yes × Figure 28 × (1 ≤ 4) × (1 ≤ 4) × (4 ≤ 6000) × (4 ≤ 6000) × Figure 0 × Figure 0 × (100 ≤ 60000) × (101 ≤ 4000000000) × (1 ≤ 2) × (1 < 32)
-unfolding readRow opened oneCalls one X Y Z started afterCall outcome afterAll
-delaying-asked =
-    let c = at-one Z .delaying .only refl .0 in
-    let u = c .usable in
-    let f = c .fitting in
-    (u .reply-whole, u .image-whole, u .image-marked, u .image-sound, c .block-whole, f .cost-low 1 (omega arith) (omega arith), f .cost-low 2 (omega arith) (omega arith), f .cost-high 1 (omega arith) (omega arith), f .cost-high 2 (omega arith) (omega arith), f .cost-beyond 3 (omega arith), f .rank-beyond 3 (omega arith), f .due-in, f .due-tick, f .ticket-left, f .room)
-
--- That the block may be considered, from figures alone.
-delaying-considered : Considered (one .image) (Z) someReply
-unfolding readRow opened oneCalls one X Y Z started afterCall outcome afterAll
-delaying-considered =
-    record {
-      usable = record { reply-whole = refl; image-whole = refl {a = 2128}; image-marked = refl {a = true}; image-sound = refl {a = true} };
-      block-whole = refl;
-      fitting =
-          record {
-            cost-low = to-station 2 (λ c. 1 ≤ c) (blockOf (Z) .costs) (omega arith, (omega arith, tt));
-            cost-high = to-station 2 (λ c. c ≤ 6000) (blockOf (Z) .costs) (omega arith, (omega arith, tt));
-            cost-beyond = beyond 2 (blockOf (Z) .costs) (refl, (refl, (refl, (refl, (refl, (refl, tt))))));
-            rank-beyond = beyond 2 (blockOf (Z) .ranks) (refl, (refl, (refl, (refl, (refl, (refl, tt))))));
-            due-in = omega arith;
-            due-tick = leb-true _ _ (refl {a = true});
-            ticket-left = leb-true _ _ (refl {a = true});
-            room = leb-true _ _ (refl {a = true});
-          };
-    }
-
-delaying-back : Figure 12
-unfolding readRow opened oneCalls one X Y Z started afterCall outcome afterAll
-delaying-back = at-one Z .delaying .if (delaying-considered, leb-true _ _ (refl {a = true}), order 0, List·Memᴰ·head refl, leb-true _ _ (refl {a = true}))
-
-delaying-margin : Bytes (254 ∷ 255 ∷ 255 ∷ 255 ∷ []) × (1 < 2147483648) × Yes
-unfolding readRow opened oneCalls one X Y Z started afterCall outcome afterAll
-delaying-margin =
-    let m = at-one (Z) .margin (inr (inr refl)) in
-    let s = m .smallest in
-    let figure = least-is (marginOf 2) (arrival (decode (one .image)) (blockOf (Z)) ∷ joinedLive (decode (one .image)) (blockOf (Z))) (m .given) (s .order) (s .among) (s .attained) (s .least) (negsuc 1) (joinedBy (blockOf (Z)) (order 0)) (List·Memᴰ·tail (List·Memᴰ·head refl)) refl (of-two (λ (o : Order). (marginOf 2 o ≡ negsuc 1) ⊎ (ltZ (negsuc 1) (marginOf 2 o) ≡ true)) (arrival (decode (one .image)) (blockOf (Z))) (joinedBy (blockOf (Z)) (order 0)) (inr refl) (inl refl)) in
-    (m .written ∙ ap (λ (z : ℤ). fourBytes (bits32 z)) figure, subst (λ (z : ℤ). mag z < 2147483648) figure (m .signed32 one-bytes), ap (λ (z : ℤ). ltZ z (pos 0)) (sym figure) ∙ m .too-late (inr refl))
+one-delaying-back = delaying-back (one .image) Z one-bytes refl (at-one Z) (considered (one .image) Z one-usable refl (leb-true _ _ (refl {a = true})) (refl {a = true}) (refl {a = true}) (refl {a = true}) (leb-true _ _ (refl {a = true})) (leb-true _ _ (refl {a = true})) (leb-true _ _ (refl {a = true})) (leb-true _ _ (refl {a = true}))) (leb-true _ _ (refl {a = true})) (leb-true _ _ (refl {a = true}))
 
 -- ---- a quote gives what the offer would, with ticket 0
 quoted : QuotedAt (one .image) (Y 7 5) someReply

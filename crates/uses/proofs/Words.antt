@@ -1,16 +1,16 @@
 -- How facts about definite lists are put together from their entries.
 use mathlib.Core.Path.{_≡_, refl, sym, ap, subst, _∙_}
-use mathlib.Core.Bool.{Bool, true, false, true≢false}
-use mathlib.Core.Logic.{_⊎_, _≢_, inl, inr}
-use mathlib.Core.List.{List, [], _∷_, List·Memᴰ·not-nil, List·Memᴰ·cases-cons}
+use mathlib.Core.Bool.{Bool, true, false, cond, true≢false}
+use mathlib.Core.Logic.{_≢_, inl, inr}
+use mathlib.Core.List.{List, [], _∷_, List·Memᴰ·head, List·Memᴰ·tail, List·Memᴰ·not-nil, List·Memᴰ·cases-cons}
 use Prim.Native.Nat.{ℕ, zero, suc, _≤_, _<_}
 use native.Mathlib.Omega.{arith}
-use lib.ListN.{getD}
-use lib.Dec.{ltb, eqb}
-use lib.IntN.{ℤ}
+use lib.ListN.{length, getD, take, drop}
+use lib.Dec.{leb, ltb, eqb}
+use lib.IntN.{ℤ, pos, negsuc}
 use lib.Signed.{ltZ}
-use borrow.Author.Tests.{ltb-true, eq-eqb}
-use Rattle.model.specs.Lists.{at, all}
+use borrow.Author.Tests.{leb-true, ltb-true, ltb-false, eqb-true, eq-eqb}
+use Rattle.model.specs.Lists.{within, isZero, at, all}
 use Rattle.schedule.specs.Valid.{_∈_}
 use Rattle.lists.proofs.Tests.{and-both}
 
@@ -28,40 +28,53 @@ of-two P x y p q e m = elim (List·Memᴰ·cases-cons m) [ inl i ↦ subst P (sy
 pub of-three : {A : Type 0} (P : A → Type 0) (x y z : A) → P x → P y → P z → (e : A) → e ∈ x ∷ y ∷ z ∷ [] → P e
 of-three P x y z p q r e m = elim (List·Memᴰ·cases-cons m) [ inl i ↦ subst P (sym i) p | inr n ↦ of-two P y z q r e n ]
 
--- What holds of each of the first n numbers of a row; and that all after them are 0.
-abbrev pub EachTo : ℕ → (ℕ → Type 0) → List ℕ → Type 0
-EachTo zero P l = Unit {0}
-EachTo (suc n) P [] = P 0 × EachTo n P []
-EachTo (suc n) P (x ∷ l) = P x × EachTo n P l
+-- Numbers of a row, by computed tests: the first n lie in a range, and all after them are 0.
+pub ranged : (low high n : ℕ) (l : List ℕ) → n ≤ length l → all (within low high) (take n l) ≡ true → (k : ℕ) → 1 ≤ k → k ≤ n → (low ≤ at 0 l k) × (at 0 l k ≤ high)
+unfolding all
+ranged low high n l long e zero some most = absurd (omega (arith, some))
+ranged low high zero l long e (suc k) some most = absurd (omega (arith, most))
+ranged low high (suc n) [] long e (suc k) some most = absurd (omega (arith, long))
+ranged low high (suc n) (x ∷ l) long e (suc zero) some most =
+    let b = and-both (leb low x) (leb x high) (and-both (within low high x) (all (within low high) (take n l)) e .0) in
+    (leb-true low x (b .0), leb-true x high (b .1))
+ranged low high (suc n) (x ∷ l) long e (suc (suc k)) some most =
+    ranged low high n l (omega (arith, long)) (and-both (within low high x) (all (within low high) (take n l)) e .1) (suc k) (omega arith) (omega (arith, most))
 
-pub to-station : (n : ℕ) (P : ℕ → Type 0) (l : List ℕ) → EachTo n P l → (k : ℕ) → 1 ≤ k → k ≤ n → P (at 0 l k)
-to-station n P l each zero low high = absurd (omega (arith, low))
-to-station zero P l each (suc k) low high = absurd (omega (arith, high))
-to-station (suc n) P [] each (suc zero) low high = each .0
-to-station (suc n) P (x ∷ l) each (suc zero) low high = each .0
-to-station (suc n) P [] each (suc (suc k)) low high = to-station n P [] (each .1) (suc k) (omega arith) (omega (arith, high))
-to-station (suc n) P (x ∷ l) each (suc (suc k)) low high = to-station n P l (each .1) (suc k) (omega arith) (omega (arith, high))
+pub zero-after : (n : ℕ) (l : List ℕ) → all isZero (drop n l) ≡ true → (k : ℕ) → n < k → at 0 l k ≡ 0
+unfolding all
+zero-after n l e zero above = absurd (omega (arith, above))
+zero-after n [] e (suc k) above = refl
+zero-after zero (x ∷ l) e (suc zero) above = eqb-true x 0 (and-both (isZero x) (all isZero l) e .0)
+zero-after zero (x ∷ l) e (suc (suc k)) above = zero-after zero l (and-both (isZero x) (all isZero l) e .1) (suc k) (omega arith)
+zero-after (suc n) (x ∷ l) e (suc zero) above = absurd (omega (arith, above))
+zero-after (suc n) (x ∷ l) e (suc (suc k)) above = zero-after n l e (suc k) (omega (arith, above))
 
-abbrev pub ZeroFrom : ℕ → List ℕ → Type 0
-ZeroFrom n [] = Unit {0}
-ZeroFrom zero (x ∷ l) = (x ≡ 0) × ZeroFrom zero l
-ZeroFrom (suc n) (x ∷ l) = ZeroFrom n l
+-- The smaller of two margins. What one of two orders has, with none below it, is that.
+abbrev pub smaller : ℤ → ℤ → ℤ
+smaller a b = cond (ltZ a b) a b
 
-pub beyond : (n : ℕ) (l : List ℕ) → ZeroFrom n l → (k : ℕ) → n < k → at 0 l k ≡ 0
-beyond n l zeros zero above = absurd (omega (arith, above))
-beyond n [] zeros (suc k) above = refl
-beyond zero (x ∷ l) zeros (suc zero) above = zeros .0
-beyond zero (x ∷ l) zeros (suc (suc k)) above = beyond zero l (zeros .1) (suc k) (omega arith)
-beyond (suc n) (x ∷ l) zeros (suc zero) above = absurd (omega (arith, above))
-beyond (suc n) (x ∷ l) zeros (suc (suc k)) above = beyond n l zeros (suc k) (omega (arith, above))
+neither-below : (a b : ℤ) → ltZ a b ≡ false → ltZ b a ≡ false → a ≡ b
+neither-below (pos a) (pos b) p q = ap pos (omega (arith, ltb-false a b p, ltb-false b a q))
+neither-below (pos a) (negsuc b) p q = absurd (true≢false q)
+neither-below (negsuc a) (pos b) p q = absurd (true≢false p)
+neither-below (negsuc a) (negsuc b) p q = ap negsuc (omega (arith, ltb-false b a p, ltb-false a b q))
 
--- The smallest margin over a list: one entry has it, and none a smaller one; so it is the figure that one has and no other is below.
-pub least-is : {A : Type 0} (margin : A → ℤ) (l : List A) (m : ℤ) (order : A) → order ∈ l → m ≡ margin order → ((e : A) → e ∈ l → ltZ (margin e) m ≡ false) → (figure : ℤ) (least : A) → least ∈ l → margin least ≡ figure → ((e : A) → e ∈ l → (margin e ≡ figure) ⊎ (ltZ figure (margin e) ≡ true)) → m ≡ figure
-least-is margin l m order among attained none-less figure least there has others =
-    elim (others order among) [
-      | inl q ↦ attained ∙ q
-      | inr q ↦ absurd (true≢false (sym q ∙ ap (λ (z : ℤ). ltZ figure z) (sym attained) ∙ ap (λ (z : ℤ). ltZ z m) (sym has) ∙ none-less least there))
-    ]
+smaller-first : (a b : ℤ) → ltZ b a ≡ false → smaller a b ≡ a
+smaller-first a b q = go (ltZ a b) refl
+  where
+    go : (t : Bool) → ltZ a b ≡ t → cond t a b ≡ a
+    go true p = refl
+    go false p = sym (neither-below a b p q)
+
+pub smaller-of-two : {A : Type 0} (margin : A → ℤ) (x y : A) (m : ℤ) (order : A) → order ∈ x ∷ y ∷ [] → m ≡ margin order → ((e : A) → e ∈ x ∷ y ∷ [] → ltZ (margin e) m ≡ false) → m ≡ smaller (margin x) (margin y)
+smaller-of-two {A} margin x y m order among has none-less =
+    has ∙ of-two (λ (o : A). margin o ≡ m → margin o ≡ smaller (margin x) (margin y)) x y first second order among (sym has)
+  where
+    first : margin x ≡ m → margin x ≡ smaller (margin x) (margin y)
+    first is = sym (smaller-first (margin x) (margin y) (rw is (none-less y (List·Memᴰ·tail (List·Memᴰ·head refl)))))
+
+    second : margin y ≡ m → margin y ≡ smaller (margin x) (margin y)
+    second is = rw (ap (λ (z : ℤ). ltZ (margin x) z) is ∙ none-less x (List·Memᴰ·head refl))
 
 -- Bytes and answers, as `Figure` has numbers.
 abbrev pub Bytes : List ℕ → Type 0
