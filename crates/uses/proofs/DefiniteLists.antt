@@ -1,6 +1,6 @@
 -- Demand 3 of definite lists of calls, each comparison computed: the statement speaks of more than empty lists, of orders that are out, in service and waiting,
--- and it is tight. Y is out on its bound and on its due tick; with the ranks reversed X is out later than the bound that it had when it was accepted. Nothing
--- here rests on the proof of demand 3.
+-- and it is tight. Y is out on its bound and on its due tick; with the ranks reversed X is out later than the bound that it had when it was accepted; at eight
+-- stations a live order has one tick to both. Nothing here rests on the proof of demand 3.
 use mathlib.Core.Path.{_≡_, refl, sym, subst, _∙_}
 use mathlib.Core.Bool.{true}
 use mathlib.Core.Logic.{_≢_}

@@ -70,7 +70,7 @@ first-out : (8 ≤ 9) × (8 ≤ 9)
 unfolding readRow opened eightCalls eight order started afterCall outcome afterAll
 first-out = kept-8 .orders (entry eight 0) (List·Memᴰ·head refl) .out-in-time 8 refl
 
-second-live : (8 < 9) × (8 < 10)
+second-live : (8 < 9) × (8 < 9)
 unfolding readRow opened eightCalls eight order started afterCall outcome afterAll
 second-live = kept-8 .orders (entry eight 1) (List·Memᴰ·tail (List·Memᴰ·head refl)) .live-in-time refl
 

@@ -48,22 +48,22 @@ y-by-due : y-progressed .out .tick ≤ 7
 unfolding readRow opened halfwayCalls halfway X Y started afterCall outcome afterAll
 y-by-due = y-progressed .out .by-due
 
--- ---- N = 8: the second order has two ticks to its due tick, and is out at 9
-second-progressed : Progressed eight (entry eight 1) (replicate 2 someReply)
+-- ---- N = 8: the second order has one tick to its due tick, and is out at 9
+second-progressed : Progressed eight (entry eight 1) (replicate 1 someReply)
 unfolding readRow opened eightCalls eight order started afterCall outcome afterAll
-second-progressed = claims .progress 8 (omega arith) (omega arith) someImage refl someReply refl eightCalls (unfold opened in eight-allowed) (entry eight 1) (List·Memᴰ·tail (List·Memᴰ·head refl)) refl (replicate 2 someReply) (all-whole 2) refl
+second-progressed = claims .progress 8 (omega arith) (omega arith) someImage refl someReply refl eightCalls (unfold opened in eight-allowed) (entry eight 1) (List·Memᴰ·tail (List·Memᴰ·head refl)) refl (replicate 1 someReply) (all-whole 1) refl
 
-second-all-done : Figure 0 × Figure 0
+second-all-done : Figure 0
 unfolding readRow opened eightCalls eight order started afterCall outcome afterAll
-second-all-done = let d = second-progressed .all-done in (d .0, d .1 .0)
+second-all-done = second-progressed .all-done .0
 
 second-out-at : second-progressed .out .tick ≡ 9
 unfolding readRow opened eightCalls eight order started afterCall outcome afterAll
 second-out-at =
     let o = second-progressed .out in
-    let after = afterAll eight (advances (replicate 2 someReply)) in
+    let after = afterAll eight (advances (replicate 1 someReply)) in
     second-is (entry after 0) (entry after 1) (o .tick) 9 refl refl (o .later) (o .there) (o .named) (o .is-out)
 
-second-by-due : second-progressed .out .tick ≤ 10
+second-by-due : second-progressed .out .tick ≤ 9
 unfolding readRow opened eightCalls eight order started afterCall outcome afterAll
 second-by-due = second-progressed .out .by-due

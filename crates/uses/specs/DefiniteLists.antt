@@ -43,10 +43,11 @@ reversedCalls = whole (offering (X 20 5)) ∷ whole (offering (Y 7 0)) ∷ ticks
 unfoldable pub halfwayCalls : List Lent
 halfwayCalls = whole (offering (X 20 0)) ∷ whole (offering (Y 7 5)) ∷ ticks 1
 
--- N = 8, two orders of cost 1 at every station, due-in 9 and 10, and eight advances: the first is out at 8; the second waits at station 8, and has the bound 9.
+-- N = 8, two orders of cost 1 at every station, due-in 9, and eight advances: the first is out at 8; the second waits at station 8, and has the bound 9, on
+-- which it is due.
 unfoldable pub eightCalls : List Lent
 unfolding order
-eightCalls = whole (offering (order 9 0 (replicate 8 1))) ∷ whole (offering (order 10 1 (replicate 8 1))) ∷ ticks 8
+eightCalls = whole (offering (order 9 0 (replicate 8 1))) ∷ whole (offering (order 9 1 (replicate 8 1))) ∷ ticks 8
 
 unfoldable pub mixed : Run
 mixed = afterAll (opened 2) mixedCalls
