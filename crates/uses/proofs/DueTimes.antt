@@ -15,49 +15,39 @@ use Rattle.uses.proofs.DefiniteLists.{entry, mixed-allowed, halfway-all
 use Rattle.claims.proofs.Claims.{claims}
 use Rattle.uses.proofs.Words.{Figure}
 
--- ---- N = 2: both orders out at the end
+-- The call that is made next is an advance, with any reply of its length.
+abbrev Advances : List ℕ → Type 0
+Advances image = (reply : List ℕ) → length reply ≡ 16 → advanceCall image reply .number ≡ 0
+
+-- ---- N = 2: both orders out at the end, X at 5 and Y at 7
 kept-2 : Kept someImage 2 someReply mixedCalls
 kept-2 = claims .due-times 2 (omega arith) (omega arith) someImage refl someReply refl mixedCalls (unfold opened in mixed-allowed)
 
 opened-2 : openCall someImage 2 someReply .number ≡ 0
 opened-2 = kept-2 .opened
 
-x-out : (5 ≤ 7) × (5 ≤ 20)
+out-2 : ((5 ≤ 7) × (5 ≤ 20)) × ((7 ≤ 7) × (7 ≤ 7))
 unfolding readRow opened mixedCalls mixed X Y started afterCall outcome afterAll
-x-out = kept-2 .orders (entry mixed 0) (List·Memᴰ·head refl) .out-in-time 5 refl
-
-y-out : (7 ≤ 7) × (7 ≤ 7)
-unfolding readRow opened mixedCalls mixed X Y started afterCall outcome afterAll
-y-out = kept-2 .orders (entry mixed 1) (List·Memᴰ·tail (List·Memᴰ·head refl)) .out-in-time 7 refl
+out-2 =
+    (kept-2 .orders (entry mixed 0) (List·Memᴰ·head refl) .out-in-time 5 refl, kept-2 .orders (entry mixed 1) (List·Memᴰ·tail (List·Memᴰ·head refl)) .out-in-time 7 refl)
 
 -- ---- N = 2: X in service, Y waiting
 halfway-2 : Kept someImage 2 someReply halfwayCalls
 halfway-2 = claims .due-times 2 (omega arith) (omega arith) someImage refl someReply refl halfwayCalls (unfold opened in halfway-allowed)
 
-x-live : (1 < 7) × (1 < 20)
+live-2 : ((1 < 7) × (1 < 20) × Advances (halfway .image)) × ((1 < 7) × (1 < 7) × Advances (halfway .image))
 unfolding readRow opened halfwayCalls halfway X Y started afterCall outcome afterAll
-x-live = halfway-2 .orders (entry halfway 0) (List·Memᴰ·head refl) .live-in-time refl
-
-x-advances : (reply : List ℕ) → length reply ≡ 16 → advanceCall (halfway .image) reply .number ≡ 0
-unfolding readRow opened halfwayCalls halfway X Y started afterCall outcome afterAll
-x-advances = halfway-2 .orders (entry halfway 0) (List·Memᴰ·head refl) .can-advance refl
-
-y-live : (1 < 7) × (1 < 7)
-unfolding readRow opened halfwayCalls halfway X Y started afterCall outcome afterAll
-y-live = halfway-2 .orders (entry halfway 1) (List·Memᴰ·tail (List·Memᴰ·head refl)) .live-in-time refl
-
-y-advances : (reply : List ℕ) → length reply ≡ 16 → advanceCall (halfway .image) reply .number ≡ 0
-unfolding readRow opened halfwayCalls halfway X Y started afterCall outcome afterAll
-y-advances = halfway-2 .orders (entry halfway 1) (List·Memᴰ·tail (List·Memᴰ·head refl)) .can-advance refl
+live-2 =
+    let x = halfway-2 .orders (entry halfway 0) (List·Memᴰ·head refl) in
+    let y = halfway-2 .orders (entry halfway 1) (List·Memᴰ·tail (List·Memᴰ·head refl)) in
+    let below-x = x .live-in-time refl in
+    let below-y = y .live-in-time refl in
+    ((below-x .0, below-x .1, x .can-advance refl), (below-y .0, below-y .1, y .can-advance refl))
 
 -- The replies of both offers and of the advance: ticket 1, ticket 2; nobody out, clock 1.
-offers-2 : Figure 1 × Figure 2
+replies-2 : Figure 1 × Figure 2 × (Figure 0 × Figure 1)
 unfolding readRow opened halfwayCalls X Y started afterCall outcome afterAll isAt outAt
-offers-2 = (halfway-2 .replies .0 refl, halfway-2 .replies .1 .0 refl)
-
-advance-2 : Figure 0 × Figure 1
-unfolding readRow opened halfwayCalls X Y started afterCall outcome afterAll isAt outAt
-advance-2 = halfway-2 .replies .1 .1 .0 refl
+replies-2 = let r = halfway-2 .replies in (r .0 refl, r .1 .0 refl, r .1 .1 .0 refl)
 
 -- ---- N = 8: the first order out at 8, the second waiting at station 8
 kept-8 : Kept someImage 8 someReply eightCalls
@@ -66,17 +56,12 @@ kept-8 = claims .due-times 8 (omega arith) (omega arith) someImage refl someRepl
 opened-8 : openCall someImage 8 someReply .number ≡ 0
 opened-8 = kept-8 .opened
 
-first-out : (8 ≤ 9) × (8 ≤ 9)
+orders-8 : ((8 ≤ 9) × (8 ≤ 9)) × ((8 < 9) × (8 < 9) × Advances (eight .image))
 unfolding readRow opened eightCalls eight order started afterCall outcome afterAll
-first-out = kept-8 .orders (entry eight 0) (List·Memᴰ·head refl) .out-in-time 8 refl
-
-second-live : (8 < 9) × (8 < 9)
-unfolding readRow opened eightCalls eight order started afterCall outcome afterAll
-second-live = kept-8 .orders (entry eight 1) (List·Memᴰ·tail (List·Memᴰ·head refl)) .live-in-time refl
-
-second-advances : (reply : List ℕ) → length reply ≡ 16 → advanceCall (eight .image) reply .number ≡ 0
-unfolding readRow opened eightCalls eight order started afterCall outcome afterAll
-second-advances = kept-8 .orders (entry eight 1) (List·Memᴰ·tail (List·Memᴰ·head refl)) .can-advance refl
+orders-8 =
+    let second = kept-8 .orders (entry eight 1) (List·Memᴰ·tail (List·Memᴰ·head refl)) in
+    let below = second .live-in-time refl in
+    (kept-8 .orders (entry eight 0) (List·Memᴰ·head refl) .out-in-time 8 refl, (below .0, below .1, second .can-advance refl))
 
 -- The eighth advance gave ticket 1 and clock 8.
 advance-8 : Figure 1 × Figure 8

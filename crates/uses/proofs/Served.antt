@@ -2,13 +2,13 @@
 -- for one tick, waits at station 2 for X, is in service there for two ticks, and is out. At 8 stations an order is in service for a tick at each in turn.
 use mathlib.Core.Path.{_≡_, refl, subst}
 use mathlib.Core.Logic.{_≢_}
-use mathlib.Core.List.{List, _∷_}
-use Prim.Native.Nat.{ℕ, zero, suc, _≤_, _<_}
+use mathlib.Core.List.{List, [], _∷_, _++_}
+use Prim.Native.Nat.{ℕ, zero, suc, _-_, _≤_, _<_}
 use native.Mathlib.Omega.{arith}
+use lib.ListN.{replicate}
 use Rattle.model.specs.declared.Service.{Service}
 use Rattle.model.specs.Lists.{at}
 use Rattle.model.specs.State.{idle}
-use Rattle.model.specs.Admission.{blockOf}
 use Rattle.model.specs.Calls.{offerCall, opening, quoting}
 use Rattle.model.specs.Runs.{Lent, started, outcome, afterCall, afterAll}
 use Rattle.model.specs.Table.{readRow}
@@ -55,11 +55,23 @@ module _ {n t : ℕ} {costs : List ℕ} {k : ℕ} {entries : List Service} {late
 twoLater : List Lent
 twoLater = whole (opening 9) ∷ whole (quoting Z) ∷ ticks 7
 
-abbrev twoTicks : List (List Service)
-twoTicks = duringCalls (offerCall (one .image) (Y 7 5) someReply .image) twoLater
+-- What the stations serve during each tick, with the ticks to go: X is ticket 1, Y ticket 2.
+abbrev twoAt : Service → Service → List Service
+twoAt first second = first ∷ second ∷ replicate 6 idle
 
-abbrev TwoCourse : Type 0
-TwoCourse = Course 2 2 (blockOf (Y 7 5) .costs) 1 0 twoTicks
+abbrev serves : ℕ → ℕ → Service
+serves ticket left = record { ticket = ticket; left = left }
+
+abbrev twoTicks : List (List Service)
+twoTicks =
+    twoAt (serves 1 1) idle ∷ twoAt (serves 2 1) (serves 1 3) ∷ twoAt idle (serves 1 2) ∷ twoAt idle (serves 1 1) ∷ twoAt idle (serves 2 2) ∷ twoAt idle (serves 2 1) ∷ twoAt idle idle ∷ []
+
+two-during : duringCalls (offerCall (one .image) (Y 7 5) someReply .image) twoLater ≡ twoTicks
+unfolding readRow opened oneCalls one twoLater X Y Z started afterCall outcome afterAll
+two-during = refl
+
+abbrev TwoCourse : List (List Service) → Type 0
+TwoCourse ticks = Course 2 2 (1 ∷ 2 ∷ replicate 6 0) 1 0 ticks
 
 -- Tick by tick: the station it is at, where it begins its cost there, and what stations 1 and 2 serve.
 abbrev TwoFigures : Type 0
@@ -71,8 +83,7 @@ TwoFigures =
     × ((2 ≤ 2) × (1 ≤ 2) × Figure 2 × (_≢_ {A = ℕ} 0 2)) × (Figure 2 × (_≢_ {A = ℕ} 0 2))
     × ((2 < 3) × (_≢_ {A = ℕ} 0 2) × (_≢_ {A = ℕ} 0 2))
 
-two-way : TwoCourse → TwoFigures
-unfolding readRow opened oneCalls one twoLater X Y Z started afterCall outcome afterAll
+two-way : TwoCourse twoTicks → TwoFigures
 two-way c =
     let a = waits-here c (omega arith) (differ 1 2 refl) in
     let b = begins-here (a .2) refl in
@@ -92,18 +103,29 @@ two-not-reopened = (differ 14 0 refl, (tt, (tt, (tt, (tt, (tt, (tt, (tt, (tt, tt
 -- Of every image of bytes, and after every list.
 two-of-images : TwoFigures
 unfolding readRow opened oneCalls one X Y Z started afterCall outcome afterAll
-two-of-images = two-way (claims .served (one .image) one-bytes (Y 7 5) someReply refl twoLater two-not-reopened)
+two-of-images = two-way (subst TwoCourse two-during (claims .served (one .image) one-bytes (Y 7 5) someReply refl twoLater two-not-reopened))
 
 two-after-lists : TwoFigures
 unfolding readRow opened oneCalls one X Y Z started afterCall outcome afterAll
-two-after-lists = two-way (claims .served-over-runs 2 (omega arith) (omega arith) someImage refl someReply refl oneCalls one-allowed (Y 7 5) someReply refl twoLater two-not-reopened)
+two-after-lists = two-way (subst TwoCourse two-during (claims .served-over-runs 2 (omega arith) (omega arith) someImage refl someReply refl oneCalls one-allowed (Y 7 5) someReply refl twoLater two-not-reopened))
 
 -- ---- N = 8: with another order a station ahead, a tick at each station, and out
 eightLater : List Lent
 eightLater = ticks 9
 
-abbrev EightCourse : Type 0
-EightCourse = Course 8 2 (blockOf (P 10) .costs) 1 0 (duringCalls (offerCall (long .image) (P 10) someReply .image) eightLater)
+-- It is at station k in tick k, and the other at the next.
+abbrev eightAt : ℕ → List Service
+eightAt k = replicate (k - 1) idle ++ (serves 2 1 ∷ serves 1 1 ∷ replicate (7 - k) idle)
+
+abbrev eightTicks : List (List Service)
+eightTicks = eightAt 1 ∷ eightAt 2 ∷ eightAt 3 ∷ eightAt 4 ∷ eightAt 5 ∷ eightAt 6 ∷ eightAt 7 ∷ (replicate 7 idle ++ (serves 2 1 ∷ [])) ∷ replicate 8 idle ∷ []
+
+eight-during : duringCalls (offerCall (long .image) (P 10) someReply .image) eightLater ≡ eightTicks
+unfolding readRow opened longCalls long eightLater order P started afterCall outcome afterAll
+eight-during = refl
+
+abbrev EightCourse : List (List Service) → Type 0
+EightCourse ticks = Course 8 2 (replicate 8 1) 1 0 ticks
 
 -- A tick at a station that serves it and where its cost is 1.
 tick-at : {n t : ℕ} {costs : List ℕ} {k : ℕ} {entries : List Service} {later : List (List Service)} → Course n t costs k 0 (entries ∷ later) → at idle entries k .ticket ≡ t → at 0 costs k ≡ 1 → (k ≤ n) × OnlyAt t k entries × Course n t costs (suc k) 0 later
@@ -120,8 +142,7 @@ EightFigures =
     × ((8 ≤ 8) × Figure 2 × (_≢_ {A = ℕ} 0 2))
     × ((8 < 9) × (_≢_ {A = ℕ} 0 2))
 
-eight-way : EightCourse → EightFigures
-unfolding readRow opened longCalls long eightLater order P started afterCall outcome afterAll
+eight-way : EightCourse eightTicks → EightFigures
 eight-way c =
     let a = tick-at c refl refl in
     let b = tick-at (a .2) refl refl in
@@ -140,4 +161,4 @@ eight-not-reopened = (tt, (tt, (tt, (tt, (tt, (tt, (tt, (tt, (tt, tt)))))))))
 
 eight-after-lists : EightFigures
 unfolding readRow opened longCalls long order P started afterCall outcome afterAll
-eight-after-lists = eight-way (claims .served-over-runs 8 (omega arith) (omega arith) someImage refl someReply refl longCalls long-allowed (P 10) someReply refl eightLater eight-not-reopened)
+eight-after-lists = eight-way (subst EightCourse eight-during (claims .served-over-runs 8 (omega arith) (omega arith) someImage refl someReply refl longCalls long-allowed (P 10) someReply refl eightLater eight-not-reopened))

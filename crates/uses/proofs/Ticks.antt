@@ -1,38 +1,48 @@
 -- A use of what each tick does, of images: who starts, who goes on, who leaves and who is out, and the reply. Three orders wait at station 1; the image is taken
 -- before the first advance, before the second and before the third.
-use mathlib.Core.Path.{_≡_, refl, sym, ap, _∙_}
+use mathlib.Core.Path.{_≡_, refl, sym, ap, subst, _∙_}
 use mathlib.Core.Logic.{_≢_}
 use mathlib.Core.Bool.{true}
-use mathlib.Core.List.{List, [], map, List·Memᴰ·head, List·Memᴰ·tail}
-use Prim.Native.Nat.{ℕ, _≤_}
+use mathlib.Core.List.{List, [], _∷_, map, List·Memᴰ·head, List·Memᴰ·tail}
+use Prim.Native.Nat.{ℕ, zero, suc, _≤_}
 use native.Mathlib.Omega.{arith}
-use lib.ListN.{getD}
+use lib.ListN.{getD, replicate}
 use borrow.Author.Tests.{leb-true}
 use Rattle.model.specs.declared.Order.{Order}
 use Rattle.model.specs.declared.Service.{Service}
 use Rattle.model.specs.Lists.{at}
-use Rattle.model.specs.State.{State}
+use Rattle.model.specs.State.{State, idle}
 use Rattle.model.specs.Tick.{oneLess, starts, advance, moveTo}
 use Rattle.model.specs.Image.{decode}
-use Rattle.model.specs.Admission.{blockOf, arrival}
 use Rattle.model.specs.Runs.{started, outcome, afterCall, afterAll, AllAllowed}
 use Rattle.model.specs.Table.{readRow}
-use Rattle.model.specs.Cases.{order, X}
+use Rattle.model.specs.Cases.{order}
 use Rattle.schedule.specs.Valid.{_∈_, Waits}
 use Rattle.schedule.specs.Starts.{AtStart, Started}
 use Rattle.schedule.specs.Pass.{passTo, AtPass}
 use Rattle.image_laws.specs.InRange.{byteLimit, Below}
 use Rattle.claims.specs.Images.{TickAsAsked}
 use Rattle.claims.proofs.Claims.{claims}
-use Rattle.uses.specs.DefiniteLists.{someImage, someReply, opened, waitingCalls, waiting, oneCalls, one}
+use Rattle.uses.specs.DefiniteLists.{someImage, someReply, opened, waitingCalls, waiting}
 use Rattle.uses.proofs.Words.{Figure, of-three, all-below, differ}
 
--- The state before the advance with this number, counted from 0, and its order with place i.
+-- The state before the first advance, before the second and before the third, in figures: three orders of rank 1, 0 and 0, which wait at station 1; the second
+-- in service there with one tick to go; the second at station 2.
+abbrev waits : ℕ → ℕ → ℕ → ℕ → Order
+waits ticket rank cost station =
+    record { ticket = ticket; accepted = 0; due = 60; sum = 5; station = station; ranks = rank ∷ rank ∷ replicate 6 0; costs = cost ∷ 1 ∷ replicate 6 0; maxima = 2 ∷ 1 ∷ replicate 6 0 }
+
+abbrev stateAt : ℕ → Service → ℕ → State
+stateAt clock entry station =
+    record { n = 2; clock = clock; next = 4; services = entry ∷ replicate 7 idle; orders = waits 1 1 2 1 ∷ waits 2 0 2 station ∷ waits 3 0 1 1 ∷ [] }
+
 abbrev before : ℕ → State
-before count = decode (waiting count .image)
+before zero = stateAt 0 idle 1
+before (suc zero) = stateAt 1 (record { ticket = 2; left = 1 }) 1
+before (suc (suc count)) = stateAt 2 idle 2
 
 abbrev orderAt : ℕ → ℕ → Order
-orderAt count i = getD (before count .orders) i (arrival (before count) (blockOf []))
+orderAt count i = getD (before count .orders) i (waits 0 0 0 0)
 
 -- The entries that the starts leave, with one tick less each, and the state after.
 abbrev ticked : ℕ → List Service
@@ -41,16 +51,19 @@ ticked count = map oneLess (starts (before count) .services)
 abbrev after : ℕ → State
 after count = passTo (ticked count) (starts (before count))
 
+abbrev TakenOf : ℕ → State → Type 0
+TakenOf count s = TickAsAsked (waiting count .image) someReply s
+
 abbrev Taken : ℕ → Type 0
-Taken count = TickAsAsked (waiting count .image) someReply (before count)
+Taken count = TakenOf count (before count)
 
 -- ---- before the first advance: station 1 starts the second order, which goes on, and station 2 rests
 second-waits : Waits (before 0) 1 (orderAt 0 1)
-unfolding readRow opened waitingCalls waiting one oneCalls X order started afterCall outcome afterAll passTo
+unfolding readRow passTo
 second-waits = record { live = List·Memᴰ·tail (List·Memᴰ·head refl); here = refl; unserved = differ 0 2 refl }
 
 second-starts : Taken 0 → (o : Order) × (o ≡ orderAt 0 1) × Figure 2 × Figure 2
-unfolding readRow opened waitingCalls waiting one oneCalls X order started afterCall outcome afterAll passTo
+unfolding readRow passTo
 second-starts t = go (t .each-starts 1)
   where
     which : (o : Order) → o ∈ before 0 .orders → Started (before 0) 1 o → o ≡ orderAt 0 1
@@ -66,11 +79,11 @@ second-starts t = go (t .each-starts 1)
 
 -- What the order that starts was, by its own facts.
 second-waited : (w : Waits (before 0) 1 (orderAt 0 1)) → Figure 1 × (_≢_ {A = ℕ} 0 2)
-unfolding readRow opened waitingCalls waiting one oneCalls X order started afterCall outcome afterAll passTo
+unfolding readRow passTo
 second-waited w = (w .here, w .unserved)
 
 two-rests : Taken 0 → Figure 0 × Figure 0
-unfolding readRow opened waitingCalls waiting one oneCalls X order started afterCall outcome afterAll passTo
+unfolding readRow passTo
 two-rests t = go (t .each-starts 2)
   where
     nobody-there : (o : Order) → o ∈ before 0 .orders → o .station ≡ 2 → ⊥
@@ -83,7 +96,7 @@ two-rests t = go (t .each-starts 2)
 
 -- 2 and 3: one of its two ticks is to go, and it stays; station 2 stays idle; the first order, which waits, stays where it is.
 second-goes-on : Taken 0 → (1 ≤ 1) × Figure 2 × Figure 1 × ((o : Order) × (o .ticket ≡ 2) × (o ∈ after 0 .orders))
-unfolding readRow opened waitingCalls waiting one oneCalls X order started afterCall outcome afterAll passTo
+unfolding readRow passTo
 second-goes-on t = go (t .each-passes .stations 1)
   where
     go : AtPass (ticked 0) (starts (before 0)) 1 → (1 ≤ 1) × Figure 2 × Figure 1 × ((o : Order) × (o .ticket ≡ 2) × (o ∈ after 0 .orders))
@@ -92,7 +105,7 @@ second-goes-on t = go (t .each-passes .stations 1)
     go (AtPass.ends w none free onward gone) = absurd (let w : _≡_ {A = ℕ} 1 0 = none in let z : ⊥ = omega (arith, w) in z)
 
 two-stays-idle : Taken 0 → Figure 0 × Figure 0
-unfolding readRow opened waitingCalls waiting one oneCalls X order started afterCall outcome afterAll passTo
+unfolding readRow passTo
 two-stays-idle t = go (t .each-passes .stations 2)
   where
     go : AtPass (ticked 0) (starts (before 0)) 2 → Figure 0 × Figure 0
@@ -101,17 +114,17 @@ two-stays-idle t = go (t .each-passes .stations 2)
     go (AtPass.ends w none free onward gone) = absurd (let w : 1 ≤ 0 = w .some-left in let z : ⊥ = omega (arith, w) in z)
 
 first-stays : Taken 0 → orderAt 0 0 ∈ after 0 .orders
-unfolding readRow opened waitingCalls waiting one oneCalls X order started afterCall outcome afterAll passTo
+unfolding readRow passTo
 first-stays t = t .each-passes .waiting 1 (orderAt 0 0) (record { live = List·Memᴰ·head refl; here = refl; unserved = differ 2 1 refl })
 
 -- The state after is that of the image after, with the clock at 1. Nobody is out.
 after-first : Taken 0 → Figure 1 × Figure 1 × Figure 1 × Figure 0
-unfolding readRow opened waitingCalls waiting one oneCalls X order started afterCall outcome afterAll passTo
+unfolding readRow opened waitingCalls waiting order started afterCall outcome afterAll passTo
 after-first t = (ap (λ (s : State). s .clock) (t .is-advance), ap (λ (s : State). s .clock) (t .says-after), t .clock-after, t .ticket-given)
 
 -- ---- before the second advance: the order in service goes on, has nothing to go then, and waits at station 2
 second-served : Taken 1 → Figure 2 × Figure 1 × (1 ≤ 1) × ((o : Order) × (o ∈ before 1 .orders) × (o .ticket ≡ 2) × (o .station ≡ 1) × (1 ≤ at 0 (o .costs) 1))
-unfolding readRow opened waitingCalls waiting one oneCalls X order started afterCall outcome afterAll passTo
+unfolding readRow passTo
 second-served t = go (t .each-starts 1)
   where
     go : AtStart (before 1) 1 → Figure 2 × Figure 1 × (1 ≤ 1) × ((o : Order) × (o ∈ before 1 .orders) × (o .ticket ≡ 2) × (o .station ≡ 1) × (1 ≤ at 0 (o .costs) 1))
@@ -120,7 +133,7 @@ second-served t = go (t .each-starts 1)
     go (AtStart.goes-on busy same) = (ap (λ (e : Service). e .ticket) same, ap (λ (e : Service). e .left) same, busy .some-left, (busy .order, busy .live, sym (busy .served), busy .here, busy .at-most))
 
 second-moves : Taken 1 → Figure 0 × Figure 0 × ((o : Order) × (o .ticket ≡ 2) × (moveTo 2 o ∈ after 1 .orders))
-unfolding readRow opened waitingCalls waiting one oneCalls X order started afterCall outcome afterAll passTo
+unfolding readRow passTo
 second-moves t = go (t .each-passes .stations 1)
   where
     go : AtPass (ticked 1) (starts (before 1)) 1 → Figure 0 × Figure 0 × ((o : Order) × (o .ticket ≡ 2) × (moveTo 2 o ∈ after 1 .orders))
@@ -130,7 +143,7 @@ second-moves t = go (t .each-passes .stations 1)
 
 -- ---- before the third advance: at station 2 the second order ends, and it is out; the first is live still
 second-gone : Taken 2 → Figure 0 × Figure 0 × ((o : Order) → o ∈ after 2 .orders → o .ticket ≡ 2 → ⊥)
-unfolding readRow opened waitingCalls waiting one oneCalls X order started afterCall outcome afterAll passTo
+unfolding readRow passTo
 second-gone t = go (t .each-passes .stations 2)
   where
     go : AtPass (ticked 2) (starts (before 2)) 2 → Figure 0 × Figure 0 × ((o : Order) → o ∈ after 2 .orders → o .ticket ≡ 2 → ⊥)
@@ -139,7 +152,7 @@ second-gone t = go (t .each-passes .stations 2)
     go (AtPass.ends w none free onward gone) = (none, ap (λ (e : Service). e .ticket) free, λ o m is. gone refl o m (is ∙ w .served))
 
 second-out : Taken 2 → ((o : Order) × (o ∈ before 2 .orders) × (o .ticket ≡ 2)) × Figure 2 × (_≢_ {A = ℕ} 1 2) × ((o : Order) × (o ∈ advance (before 2) .orders) × (o .ticket ≡ 1)) × Figure 2
-unfolding readRow opened waitingCalls waiting one oneCalls X order started afterCall outcome afterAll passTo
+unfolding readRow opened waitingCalls waiting order started afterCall outcome afterAll passTo
 second-out t =
     let out = t .ticket-out in
     let was = out .was-live (leb-true _ _ (refl {a = true})) in
@@ -148,21 +161,26 @@ second-out t =
 
 -- ---- all of it of every image of bytes, and after every list, at 2 stations
 waiting-bytes : (Below byteLimit (waiting 0 .image)) × (Below byteLimit (waiting 1 .image)) × (Below byteLimit (waiting 2 .image))
-unfolding readRow opened waitingCalls waiting one oneCalls X order started afterCall outcome afterAll passTo
+unfolding readRow opened waitingCalls waiting order started afterCall outcome afterAll passTo
 waiting-bytes =
     (all-below 256 (waiting 0 .image) (omega arith) (refl {a = true}), all-below 256 (waiting 1 .image) (omega arith) (refl {a = true}), all-below 256 (waiting 2 .image) (omega arith) (refl {a = true}))
 
+-- These are the states that the images say.
+says : (decode (waiting 0 .image) ≡ before 0) × (decode (waiting 1 .image) ≡ before 1) × (decode (waiting 2 .image) ≡ before 2)
+unfolding readRow opened waitingCalls waiting order started afterCall outcome afterAll
+says = (refl, refl, refl)
+
 of-images : Taken 0 × Taken 1 × Taken 2
-unfolding readRow opened waitingCalls waiting one oneCalls X order started afterCall outcome afterAll passTo
+unfolding readRow opened waitingCalls waiting order started afterCall outcome afterAll
 of-images =
-    (claims .ticks (waiting 0 .image) (waiting-bytes .0) someReply refl, claims .ticks (waiting 1 .image) (waiting-bytes .1) someReply refl, claims .ticks (waiting 2 .image) (waiting-bytes .2) someReply refl)
+    (subst (TakenOf 0) (says .0) (claims .ticks (waiting 0 .image) (waiting-bytes .0) someReply refl), subst (TakenOf 1) (says .1) (claims .ticks (waiting 1 .image) (waiting-bytes .1) someReply refl), subst (TakenOf 2) (says .2) (claims .ticks (waiting 2 .image) (waiting-bytes .2) someReply refl))
 
 waiting-allowed : (AllAllowed (opened 2) (waitingCalls 0)) × (AllAllowed (opened 2) (waitingCalls 1)) × (AllAllowed (opened 2) (waitingCalls 2))
 unfolding waitingCalls
 waiting-allowed = ((tt, (tt, (tt, tt))), (tt, (tt, (tt, (tt, tt)))), (tt, (tt, (tt, (tt, (tt, tt))))))
 
 after-lists : Taken 0 × Taken 1 × Taken 2
-unfolding readRow opened waitingCalls waiting one oneCalls X order started afterCall outcome afterAll passTo
+unfolding readRow opened waitingCalls waiting order started afterCall outcome afterAll
 after-lists =
     let of = claims .ticks-over-runs 2 (omega arith) (omega arith) someImage refl someReply refl in
-    (of (waitingCalls 0) (waiting-allowed .0) someReply refl, of (waitingCalls 1) (waiting-allowed .1) someReply refl, of (waitingCalls 2) (waiting-allowed .2) someReply refl)
+    (subst (TakenOf 0) (says .0) (of (waitingCalls 0) (waiting-allowed .0) someReply refl), subst (TakenOf 1) (says .1) (of (waitingCalls 1) (waiting-allowed .1) someReply refl), subst (TakenOf 2) (says .2) (of (waitingCalls 2) (waiting-allowed .2) someReply refl))
