@@ -409,4 +409,5 @@ def report(done, whole, seconds):
     return 1 if bad else 0
 
 
-main()
+if __name__ == "__main__":
+    main()

@@ -12,11 +12,11 @@ import shutil
 import subprocess
 import sys
 from concurrent.futures import ThreadPoolExecutor
-from pathlib import Path
 
-ROOT = Path(__file__).resolve().parents[2]
-WEAKENED = Path(__file__).resolve().parent / "weakened"
-ROOM = ROOT / "target" / "weakened"
+from mutants import HERE, ROOT, Prover, first_error
+
+WEAKENED = HERE / "weakened"
+ROOM = ROOT / "target/weakened"
 STATED, USED = "claims", "uses"
 
 
@@ -49,22 +49,21 @@ class Weakening:
 
 
 def needed():
-    """The crates that `uses` rests on, itself included, with what each uses."""
-    lines = (ROOT / "crates.txt").read_text(encoding="utf-8").splitlines()
-    every = dict(line.split(":", 1) for line in lines if line and not line.startswith("#"))
-    found, open_ = [], [USED]
+    """The crates that `uses` rests on, itself included, as lines of crates.txt; and their names."""
+    every = Prover().uses
+    found, open_ = set(), [USED]
     while open_:
         name = open_.pop()
         if name not in found:
-            found.append(name)
-            open_ += every[name].split()
-    return [f"{name}:{every[name]}" for name in every if name in found], found
+            found.add(name)
+            open_ += every[name]
+    return [f"{name}: {' '.join(every[name])}" for name in every if name in found], found
 
 
 def rt(copy, crate):
+    """Whether rt proves it, and else the first error."""
     run = subprocess.run(["rt", "check", crate], cwd=copy, capture_output=True, text=True, check=False)
-    said = run.stdout + run.stderr
-    return run.returncode == 0, next((line for line in said.splitlines() if " error: " in line), said.strip().splitlines()[-1] if said.strip() else "")
+    return run.returncode == 0, " ".join(first_error(run.stdout + run.stderr).split())
 
 
 def keep(copy, module):

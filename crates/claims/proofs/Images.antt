@@ -1,18 +1,16 @@
 -- What the schedule's theorems say of states, said of images: a sound image says a valid state, and each done call leaves the image of the state after it. Over
 -- lists of calls the steps of the schedule are the done offers and the done advances.
 use mathlib.Core.Path.{_≡_, refl, sym, ap, subst, _∙_}
-use mathlib.Core.Logic.{_≢_}
 use mathlib.Core.List.{List, [], _∷_, _++_, map}
 use Prim.Native.Nat.{ℕ, zero, suc, _+_}
 use native.Mathlib.Omega.{arith}
-use borrow.Author.Tests.{ne-eqb}
 use Rattle.model.specs.declared.Order.{Order}
 use Rattle.model.specs.declared.Service.{Service}
 use Rattle.model.specs.State.{State, idle}
 use Rattle.model.specs.Tick.{oneLess, starts, tick, leave, advance}
 use Rattle.model.specs.Image.{decode}
 use Rattle.model.specs.Admission.{blockOf, accept}
-use Rattle.model.specs.Calls.{result, openNumber, openCall, offerNumber, offerCall, quoteCall, advanceNumber, advanceCall, Call, opening, quoting, offering, advancing, perform}
+use Rattle.model.specs.Calls.{result, openCall, offerNumber, offerCall, quoteCall, advanceNumber, advanceCall, Call, opening, quoting, offering, advancing, perform}
 use Rattle.model.specs.Runs.{Lent, started, afterAll}
 use Rattle.schedule.specs.Valid.{_∈_, serving}
 use Rattle.schedule.specs.Accept.{Acceptable}
@@ -27,6 +25,7 @@ use Rattle.image_laws.specs.SoundFacts.{SoundInRange}
 use Rattle.image_laws.proofs.Sound.{sound-gives, sound-valid}
 use Rattle.image_laws.proofs.Written.{decode-encode}
 use Rattle.call_laws.proofs.offers.Questions.{eight-ranks, eight-costs}
+use Rattle.call_laws.proofs.opens.Exact.{open-decline-leaves}
 use Rattle.call_laws.proofs.offers.Exact.{exact}
 use Rattle.call_laws.proofs.offers.Accept.{accept-sound}
 use Rattle.call_laws.proofs.offers.Kept.{done-image, decline-leaves, quote-gives-offer}
@@ -107,10 +106,6 @@ pub record Followed (image : List ℕ) (calls : List Lent) (s : State) : Type 0 
   pub may : course.AllAcceptable s steps
   pub same-ticks : course.duringTicks s steps ≡ duringCalls image calls
 
-open-left : (image : List ℕ) (n : ℕ) (reply : List ℕ) → openCall image n reply .number ≢ 0 → openCall image n reply .image ≡ image
-unfolding openCall result
-open-left image n reply other = rw (ne-eqb (openNumber image n reply) 0 other)
-
 abbrev Follows : List Lent → Type 0
 Follows later = (image : List ℕ) → SoundInRange (decode image) → NotReopened image later → Followed image later (decode image)
 
@@ -154,7 +149,7 @@ module _ (later : List Lent) (follows : Follows later) (image : List ℕ) (sound
   one-more lent allowed = go (lent .call) (lent .reply) allowed
     where
       go : (call : Call) (reply : List ℕ) → NotReopened image (record { call = call; reply = reply } ∷ later) → Followed image (record { call = call; reply = reply } ∷ later) (decode image)
-      go (opening n) reply allowed = let f = unchanged (openCall image n reply .image) (open-left image n reply (allowed .0)) (allowed .1) in record { steps = f .steps; may = f .may; same-ticks = f .same-ticks }
+      go (opening n) reply allowed = let f = unchanged (openCall image n reply .image) (open-decline-leaves image n reply (unfold openCall result in allowed .0)) (allowed .1) in record { steps = f .steps; may = f .may; same-ticks = f .same-ticks }
       go (quoting block) reply allowed = let f = unchanged (quoteCall image block reply .image) (quote-gives-offer image block reply .image-left) (allowed .1) in record { steps = f .steps; may = f .may; same-ticks = f .same-ticks }
       go (offering block) reply allowed = offered block reply (offerNumber image block reply) refl (allowed .1)
       go advancing reply allowed = advanced reply (advanceCall image reply .number) refl (allowed .1)

@@ -1,18 +1,17 @@
 -- The invariant over lists of calls: the image is that of the state that the history stands for, this state is sound, and no more orders were accepted than
 -- the clock shows and are live, so that tickets do not end. Every call that demand 3 allows keeps it.
 use mathlib.Core.Path.{_≡_, refl, sym, ap, subst, _∙_}
-use mathlib.Core.Logic.{_≢_}
 use mathlib.Core.Bool.{true, false}
 use mathlib.Core.List.{List, [], _∷_, _++_}
 use Prim.Native.Nat.{ℕ, zero, suc, _+_, _≤_, _<_}
 use native.Mathlib.Omega.{arith}
 use lib.ListN.{length}
 use lib.Dec.{ltb}
-use borrow.Author.Tests.{eq-eqb, le-leb, ne-eqb}
+use borrow.Author.Tests.{eq-eqb}
 use Rattle.model.specs.declared.Block.{Block}
 use Rattle.model.specs.declared.Order.{Order}
 use Rattle.model.specs.Limits.{maxStations, lastTick, lastTicket}
-use Rattle.model.specs.State.{State, fresh}
+use Rattle.model.specs.State.{State}
 use Rattle.model.specs.Tick.{advance}
 use Rattle.model.specs.Layout.{imageSize, replySize}
 use Rattle.model.specs.Image.{marked, decode, encode}
@@ -34,6 +33,7 @@ use Rattle.image_laws.proofs.Sound.{gives-sound}
 use Rattle.image_laws.proofs.Fresh.{fresh-sound}
 use Rattle.call_laws.specs.Considered.{Fitting}
 use Rattle.call_laws.specs.OfferExact.{InTime}
+use Rattle.call_laws.proofs.opens.Exact as opens
 use Rattle.call_laws.proofs.offers.Questions.{eight-ranks, eight-costs}
 use Rattle.call_laws.proofs.offers.Times.{time-says, live-say}
 use Rattle.call_laws.proofs.offers.Exact.{exact}
@@ -100,20 +100,18 @@ module _ (run : Run) (kept : Invariant run) where
 
 -- ---- the opening call
 module _ (image : List ℕ) (n : ℕ) (reply : List ℕ) (low : 1 ≤ n) (high : n ≤ maxStations) (image-whole : length image ≡ imageSize) (reply-whole : length reply ≡ replySize) where
-  pub open-done : openCall image n reply .number ≡ 0
-  unfolding openCall result openNumber firstNo replyQuestion lengthQuestion
-  open-done = rw (eq-eqb (length reply) replySize reply-whole, eq-eqb (length image) imageSize image-whole, le-leb 1 n low, le-leb n maxStations high)
+  asked-done : openNumber image n reply ≡ 0
+  asked-done = opens.open-done image n reply .if (record { reply-whole = reply-whole; image-whole = image-whole; n-low = low; n-high = high })
 
-  open-image : openCall image n reply .image ≡ encode (fresh n)
-  unfolding openCall result
-  open-image = rw open-done
+  pub open-done : openCall image n reply .number ≡ 0
+  open-done = unfold openCall result in asked-done
 
   pub invariant-started : Invariant (started image n reply)
   unfolding started begun
   invariant-started =
       record {
         history = due.kept-begun n low high;
-        image-is = open-image ∙ ap encode (due.begun-is n);
+        image-is = opens.opened-image image n reply asked-done ∙ ap encode (due.begun-is n);
         is-sound = subst SoundInRange (due.begun-is n) (fresh-sound n low high .state);
         counted = omega arith;
       }
@@ -187,10 +185,6 @@ module _ (run : Run) (kept : Invariant run) where
   unchanged : {image : List ℕ} → image ≡ run .image → Invariant (leaving image (run .history))
   unchanged e = subst (λ (image : List ℕ). Invariant (leaving image (run .history))) (sym e) kept
 
-  opened-not : (n : ℕ) (reply : List ℕ) → openCall (run .image) n reply .number ≢ 0 → openCall (run .image) n reply .image ≡ run .image
-  unfolding openCall result
-  opened-not n reply other = rw (ne-eqb (openNumber (run .image) n reply) 0 other)
-
   offered : (block reply : List ℕ) (k : ℕ) → offerNumber (run .image) block reply ≡ k → Invariant (leaving (offerCall (run .image) block reply .image) (feed (offering block) k (run .history)))
   unfolding feed
   offered block reply zero e = invariant-offered run kept block reply e
@@ -203,7 +197,7 @@ module _ (run : Run) (kept : Invariant run) where
 
   called : (call : Call) (reply : List ℕ) → Allowed call (perform call (run .image) reply) → Invariant (leaving (perform call (run .image) reply .image) (feed call (perform call (run .image) reply .number) (run .history)))
   unfolding perform
-  called (opening n) reply other = unfold feed in unchanged (opened-not n reply other)
+  called (opening n) reply other = unfold feed in unchanged (opens.open-decline-leaves (run .image) n reply (unfold openCall result in other))
   called (quoting block) reply any = unfold feed in unchanged (quote-gives-offer (run .image) block reply .image-left)
   called (offering block) reply any = unfold offerCall result in offered block reply (offerNumber (run .image) block reply) refl
   called advancing reply any = unfold advanceCall result in advanced reply (advanceNumber (run .image) reply) refl

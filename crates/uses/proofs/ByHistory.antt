@@ -6,14 +6,15 @@ use mathlib.Core.Bool.{true}
 use mathlib.Core.List.{List, [], _∷_, List·Memᴰ·head, List·Memᴰ·tail}
 use Prim.Native.Nat.{ℕ, _+_, _≤_, _<_}
 use native.Mathlib.Omega.{arith}
-use lib.ListN.{length, getD, take, drop}
+use lib.ListN.{length, getD}
 use borrow.Author.Tests.{leb-true}
 use lib.IntN.{ℤ}
 use lib.Signed.{mag}
 use Rattle.model.specs.Limits.{lastTick}
-use Rattle.model.specs.Lists.{within, isZero, at, part, all}
+use Rattle.model.specs.Lists.{at, part}
 use Rattle.model.specs.Bytes.{word, fourBytes, bits32}
 use Rattle.model.specs.Layout.{clockAt, blockSize, replyTickAt, replyMarginAt}
+use Rattle.model.specs.Soundness.{costsInRange, zeroBeyond}
 use Rattle.model.specs.Admission.{blockOf, dueOf}
 use Rattle.model.specs.Calls.{Result, quoteCall, offerCall, opening, offering, advancing}
 use Rattle.model.specs.History.{Entry, History, liveOrders, entryBound}
@@ -21,11 +22,12 @@ use Rattle.model.specs.Runs.{started, outcome, afterCall, afterAll, AllAllowed}
 use Rattle.model.specs.Table.{readRow}
 use Rattle.model.specs.Cases.{order, X, Y}
 use Rattle.schedule.specs.Valid.{_∈_}
+use Rattle.image_laws.proofs.Clauses.{zero-beyond, costs-say}
 use Rattle.claims.specs.ByHistory.{tried, arriving, OnTime, Late, marginOf, Considered, Judged, InStep}
 use Rattle.claims.proofs.Claims.{claims}
 use Rattle.uses.specs.DefiniteLists.{someImage, someReply, opened, whole, oneCalls, one, Z, longCalls, long, P, Q}
 use Rattle.uses.proofs.DefiniteLists.{entry}
-use Rattle.uses.proofs.Words.{Figure, of-two, ranged, zero-after, smaller, smaller-of-two}
+use Rattle.uses.proofs.Words.{Figure, of-two, smaller, smaller-of-two}
 
 -- ---- what is taken from a judgement, of any history with one live order and any block that would be the second
 module _ (h : History) (block : List ℕ) where
@@ -51,15 +53,16 @@ module _ (h : History) (block : List ℕ) where
       (c .reply-whole, c .block-whole, c .cost-low 1 (omega arith) some, c .cost-high 1 (omega arith) some, c .cost-low (h .n) some (omega arith), c .cost-high (h .n) some (omega arith), c .cost-beyond (h .n + 1) (omega arith), c .rank-beyond (h .n + 1) (omega arith), c .due-in, c .due-tick, c .room)
 
   -- And the way back, by computed tests.
-  considered : length block ≡ blockSize → h .n ≤ length costs → all (within 1 6000) (take (h .n) costs) ≡ true → all isZero (drop (h .n) costs) ≡ true → all isZero (drop (h .n) (blockOf block .ranks)) ≡ true → blockOf block .«due_in» ≤ 60000 → dueOf (h .clock) (blockOf block) ≤ lastTick → length (liveOrders h) < 32 → Considered h block someReply
+  considered : length block ≡ blockSize → h .n ≤ length costs → costsInRange (h .n) costs ≡ true → zeroBeyond (h .n) costs ≡ true → zeroBeyond (h .n) (blockOf block .ranks) ≡ true → blockOf block .«due_in» ≤ 60000 → dueOf (h .clock) (blockOf block) ≤ lastTick → length (liveOrders h) < 32 → Considered h block someReply
   considered whole long range zero-costs zero-ranks due-in due-tick room =
+      let in-range = costs-say (h .n) costs long .tells range in
       record {
         reply-whole = refl;
         block-whole = whole;
-        cost-low = λ k low high. ranged 1 6000 (h .n) costs long range k low high .0;
-        cost-high = λ k low high. ranged 1 6000 (h .n) costs long range k low high .1;
-        cost-beyond = zero-after (h .n) costs zero-costs;
-        rank-beyond = zero-after (h .n) (blockOf block .ranks) zero-ranks;
+        cost-low = λ k low high. in-range k low high .0;
+        cost-high = λ k low high. in-range k low high .1;
+        cost-beyond = zero-beyond (h .n) costs .tells zero-costs;
+        rank-beyond = zero-beyond (h .n) (blockOf block .ranks) .tells zero-ranks;
         due-in = due-in;
         due-tick = due-tick;
         room = room;

@@ -3,13 +3,11 @@
 -- stations a live order has one tick to both. Nothing here rests on the proof of demand 3.
 use mathlib.Core.Path.{_≡_, refl, sym, subst, _∙_}
 use mathlib.Core.Bool.{true}
-use mathlib.Core.Logic.{_≢_}
 use mathlib.Core.List.{List, [], _∷_, List·Memᴰ}
 use mathlib.Core.Option.{none, some, Option·some-injective, Option·some-ne-none}
-use Prim.Native.Nat.{ℕ, suc}
-use native.Mathlib.Omega.{arith}
+use Prim.Native.Nat.{ℕ}
 use lib.ListN.{length, getD}
-use borrow.Author.Tests.{leb-true}
+use borrow.Author.Tests.{eqb-false, leb-true}
 use Rattle.model.specs.Admission.{blockOf}
 use Rattle.model.specs.Calls.{result, replyQuestion, advanceNumber, advanceCall}
 use Rattle.model.specs.History.{Entry, entering, isAt, outAt}
@@ -39,14 +37,10 @@ advance-by-length : (image reply other : List ℕ) → length reply ≡ length o
 unfolding advanceCall result advanceNumber replyQuestion
 advance-by-length image reply other e = rw e
 
--- A number that is computed is another than 0.
-declined : {number : ℕ} (k : ℕ) → number ≡ suc k → number ≢ 0
-declined k e = omega arith
-
 -- ---- "X is out at 5, Y at 7"
 pub mixed-allowed : AllAllowed (opened 2) mixedCalls
 unfolding readRow opened mixedCalls X Y started afterCall outcome
-mixed-allowed = (tt, (declined 0 (refl {a = 1}), (declined 13 (refl {a = 14}), (tt, (tt, (tt, (tt, (tt, (tt, (tt, (tt, (tt, tt))))))))))))
+mixed-allowed = (tt, (eqb-false 1 0 refl, (eqb-false 14 0 refl, (tt, (tt, (tt, (tt, (tt, (tt, (tt, (tt, (tt, tt))))))))))))
 
 mixed-x : InTime mixed (entry mixed 0)
 unfolding readRow opened mixedCalls mixed X Y started afterCall outcome afterAll

@@ -5,6 +5,7 @@ use mathlib.Core.List.{List, [], _∷_, _++_}
 use Prim.Native.Nat.{ℕ, zero, suc, _≤_, _<_}
 use native.Mathlib.Omega.{arith}
 use lib.ListN.{getD, replicate}
+use borrow.Author.Tests.{eqb-false}
 use Rattle.model.specs.Lists.{concat}
 use Rattle.text.specs.Ascii.{ascii}
 use Rattle.plan_model.specs.declared.Task.{Task}
@@ -14,7 +15,7 @@ use Rattle.plan_model.specs.Input.{taskOf}
 use Rattle.plan_model.specs.Meaning.{sequence, FirstEnd, FirstPast, Meant, Asked, asked}
 use Rattle.plan_model.specs.Cases.{_prints_, isPrinted, lateLines, largestResponse, isNumbered}
 use Rattle.claims.proofs.Claims.{claims}
-use Rattle.uses.proofs.Words.{Figure, Bytes, differ}
+use Rattle.uses.proofs.Words.{Figure, Bytes}
 
 -- "For `2`, `10 10 2 3`, `8 8 1 2`", and "With deadline 7 for task 2".
 tasks : ℕ → List Task
@@ -92,7 +93,7 @@ responseAt k l = getD l k (taskOf []) .response
 
 declined : Figure 0
 unfolding isNumbered isPrinted outOfRange afterPlan
-declined = ap (responseAt 0) (claims .plan-leaves 2 outOfRange .declined (differ 18 0 refl))
+declined = ap (responseAt 0) (claims .plan-leaves 2 outOfRange .declined (eqb-false 18 0 refl))
 
 done : Figure 7
 unfolding isNumbered isPrinted tasks afterPlan

@@ -6,6 +6,7 @@ use mathlib.Core.List.{List, [], _∷_, _++_}
 use Prim.Native.Nat.{ℕ, zero, suc, _-_, _≤_, _<_}
 use native.Mathlib.Omega.{arith}
 use lib.ListN.{replicate}
+use borrow.Author.Tests.{eqb-false}
 use Rattle.model.specs.declared.Service.{Service}
 use Rattle.model.specs.Lists.{at}
 use Rattle.model.specs.State.{idle}
@@ -17,7 +18,7 @@ use Rattle.schedule.specs.Course.{Course, waits, begins, works, leaves, is-out,
 use Rattle.claims.specs.Images.{duringCalls, NotReopened}
 use Rattle.claims.proofs.Claims.{claims}
 use Rattle.uses.specs.DefiniteLists.{someImage, someReply, opened, whole, ticks, oneCalls, one, Z, longCalls, long, P}
-use Rattle.uses.proofs.Words.{Figure, differ}
+use Rattle.uses.proofs.Words.{Figure}
 use Rattle.uses.proofs.ByHistory.{one-allowed, long-allowed}
 use Rattle.uses.proofs.Offers.{one-bytes}
 
@@ -85,20 +86,20 @@ TwoFigures =
 
 two-way : TwoCourse twoTicks → TwoFigures
 two-way c =
-    let a = waits-here c (omega arith) (differ 1 2 refl) in
+    let a = waits-here c (omega arith) (eqb-false 1 2 refl) in
     let b = begins-here (a .2) refl in
     let c1 = ends (b .2) in
-    let d = waits-here (c1 .1) (omega arith) (differ 1 2 refl) in
-    let e = waits-here (d .2) (omega arith) (differ 1 2 refl) in
+    let d = waits-here (c1 .1) (omega arith) (eqb-false 1 2 refl) in
+    let e = waits-here (d .2) (omega arith) (eqb-false 1 2 refl) in
     let f = begins-here (e .2) refl in
     let g = works-on (f .2) in
     let h = ends (g .1) in
     let o = out-here (h .1) (omega arith) in
-    ((a .0, a .1 1, a .1 2), (b .0, b .1, c1 .0 .there, c1 .0 .nowhere-else 2 (differ 2 1 refl)), (d .0, d .1 1, d .1 2), (e .0, e .1 1, e .1 2), (f .0, f .1, g .0 .there, g .0 .nowhere-else 1 (differ 1 2 refl)), (h .0 .there, h .0 .nowhere-else 1 (differ 1 2 refl)), (o .0, o .1 1, o .1 2))
+    ((a .0, a .1 1, a .1 2), (b .0, b .1, c1 .0 .there, c1 .0 .nowhere-else 2 (eqb-false 2 1 refl)), (d .0, d .1 1, d .1 2), (e .0, e .1 1, e .1 2), (f .0, f .1, g .0 .there, g .0 .nowhere-else 1 (eqb-false 1 2 refl)), (h .0 .there, h .0 .nowhere-else 1 (eqb-false 1 2 refl)), (o .0, o .1 1, o .1 2))
 
 two-not-reopened : NotReopened (offerCall (one .image) (Y 7 5) someReply .image) twoLater
 unfolding readRow opened oneCalls one twoLater X Y Z started afterCall outcome afterAll
-two-not-reopened = (differ 14 0 refl, (tt, (tt, (tt, (tt, (tt, (tt, (tt, (tt, tt)))))))))
+two-not-reopened = (eqb-false 14 0 refl, (tt, (tt, (tt, (tt, (tt, (tt, (tt, (tt, tt)))))))))
 
 -- Of every image of bytes, and after every list.
 two-of-images : TwoFigures
@@ -153,7 +154,7 @@ eight-way c =
     let h = tick-at (g .2) refl refl in
     let i = tick-at (h .2) refl refl in
     let o = out-here (i .2) (omega arith) in
-    ((a .0, a .1 .there, a .1 .nowhere-else 2 (differ 2 1 refl)), (b .0, b .1 .there), (h .0, h .1 .there, h .1 .nowhere-else 8 (differ 8 7 refl)), (i .0, i .1 .there, i .1 .nowhere-else 7 (differ 7 8 refl)), (o .0, o .1 8))
+    ((a .0, a .1 .there, a .1 .nowhere-else 2 (eqb-false 2 1 refl)), (b .0, b .1 .there), (h .0, h .1 .there, h .1 .nowhere-else 8 (eqb-false 8 7 refl)), (i .0, i .1 .there, i .1 .nowhere-else 7 (eqb-false 7 8 refl)), (o .0, o .1 8))
 
 eight-not-reopened : NotReopened (offerCall (long .image) (P 10) someReply .image) eightLater
 unfolding eightLater

@@ -4,7 +4,7 @@ use mathlib.Core.Path.{_≡_, refl}
 use mathlib.Core.Bool.{true}
 use mathlib.Core.List.{List, [], _∷_}
 use Prim.Native.Nat.{ℕ}
-use lib.ListN.{getD, replicate}
+use lib.ListN.{length, getD, replicate}
 use lib.IntN.{pos, negsuc}
 use Rattle.model.specs.Calls.{offering, advancing}
 use Rattle.model.specs.Table.{Row, opens, gives, serving, outs, bounds, inStep, Hold}
@@ -37,6 +37,11 @@ declinedBy block number below = gives (offering block) number (record { ticket =
 
 abbrev advanced : ℕ → ℕ → Row
 advanced ticket clock = gives advancing 0 (record { ticket = ticket; tick = clock; margin = pos 0 })
+
+-- So many rows each.
+lengths : (length firstTwo ≡ 34) × (length lateArrival ≡ 4) × (length lateLive ≡ 4) × (length ranksReversed ≡ 25) × (length startsAtTwo ≡ 28) × (length oneStation ≡ 12) × (length eightStations ≡ 7)
+unfolding firstTwo lateArrival lateLive ranksReversed startsAtTwo oneStation eightStations
+lengths = (refl, refl, refl, refl, refl, refl, refl)
 
 -- "X, due-in 20, at 0: ticket 1, tick 5, margin 15." "then Y at 0, due-in 7: ticket 2, tick 7, margin 0. X is out at 5, Y at 7."
 first-two : (rowAt firstTwo 0 ≡ opens 2) × (rowAt firstTwo 1 ≡ offered (X 20 0) 1 5 15) × (rowAt firstTwo 4 ≡ offered (Y 7 5) 2 7 0) × (rowAt firstTwo 20 ≡ advanced 1 5) × (rowAt firstTwo 28 ≡ advanced 2 7) × (rowAt firstTwo 31 ≡ outs (5 ∷ 7 ∷ []))

@@ -7,7 +7,7 @@ use mathlib.Core.List.{List, [], _∷_, map, List·Memᴰ·head, List·Memᴰ·t
 use Prim.Native.Nat.{ℕ, zero, suc, _≤_}
 use native.Mathlib.Omega.{arith}
 use lib.ListN.{getD, replicate}
-use borrow.Author.Tests.{leb-true}
+use borrow.Author.Tests.{leb-true, eqb-false}
 use Rattle.model.specs.declared.Order.{Order}
 use Rattle.model.specs.declared.Service.{Service}
 use Rattle.model.specs.Lists.{at}
@@ -24,7 +24,7 @@ use Rattle.image_laws.specs.InRange.{byteLimit, Below}
 use Rattle.claims.specs.Images.{TickAsAsked}
 use Rattle.claims.proofs.Claims.{claims}
 use Rattle.uses.specs.DefiniteLists.{someImage, someReply, opened, waitingCalls, waiting}
-use Rattle.uses.proofs.Words.{Figure, of-three, all-below, differ}
+use Rattle.uses.proofs.Words.{Figure, of-three, all-bytes}
 
 -- The state before the first advance, before the second and before the third, in figures: three orders of rank 1, 0 and 0, which wait at station 1; the second
 -- in service there with one tick to go; the second at station 2.
@@ -60,7 +60,7 @@ Taken count = TakenOf count (before count)
 -- ---- before the first advance: station 1 starts the second order, which goes on, and station 2 rests
 second-waits : Waits (before 0) 1 (orderAt 0 1)
 unfolding readRow passTo
-second-waits = record { live = List·Memᴰ·tail (List·Memᴰ·head refl); here = refl; unserved = differ 0 2 refl }
+second-waits = record { live = List·Memᴰ·tail (List·Memᴰ·head refl); here = refl; unserved = eqb-false 0 2 refl }
 
 second-starts : Taken 0 → (o : Order) × (o ≡ orderAt 0 1) × Figure 2 × Figure 2
 unfolding readRow passTo
@@ -87,7 +87,7 @@ unfolding readRow passTo
 two-rests t = go (t .each-starts 2)
   where
     nobody-there : (o : Order) → o ∈ before 0 .orders → o .station ≡ 2 → ⊥
-    nobody-there = of-three (λ (o : Order). o .station ≡ 2 → ⊥) (orderAt 0 0) (orderAt 0 1) (orderAt 0 2) (differ 1 2 refl) (differ 1 2 refl) (differ 1 2 refl)
+    nobody-there = of-three (λ (o : Order). o .station ≡ 2 → ⊥) (orderAt 0 0) (orderAt 0 1) (orderAt 0 2) (eqb-false 1 2 refl) (eqb-false 1 2 refl) (eqb-false 1 2 refl)
 
     go : AtStart (before 0) 2 → Figure 0 × Figure 0
     go (AtStart.rests free nobody stays) = (ap (λ (e : Service). e .ticket) free, ap (λ (e : Service). e .ticket) stays)
@@ -115,7 +115,7 @@ two-stays-idle t = go (t .each-passes .stations 2)
 
 first-stays : Taken 0 → orderAt 0 0 ∈ after 0 .orders
 unfolding readRow passTo
-first-stays t = t .each-passes .waiting 1 (orderAt 0 0) (record { live = List·Memᴰ·head refl; here = refl; unserved = differ 2 1 refl })
+first-stays t = t .each-passes .waiting 1 (orderAt 0 0) (record { live = List·Memᴰ·head refl; here = refl; unserved = eqb-false 2 1 refl })
 
 -- The state after is that of the image after, with the clock at 1. Nobody is out.
 after-first : Taken 0 → Figure 1 × Figure 1 × Figure 1 × Figure 0
@@ -156,14 +156,14 @@ unfolding readRow opened waitingCalls waiting order started afterCall outcome af
 second-out t =
     let out = t .ticket-out in
     let was = out .was-live (leb-true _ _ (refl {a = true})) in
-    let still = out .others-live (orderAt 2 0) (List·Memᴰ·head refl) (differ 1 2 refl) in
+    let still = out .others-live (orderAt 2 0) (List·Memᴰ·head refl) (eqb-false 1 2 refl) in
     ((was .order, was .live, was .named), out .at-last (orderAt 2 1) (List·Memᴰ·tail (List·Memᴰ·head refl)) refl, out .is-out (leb-true _ _ (refl {a = true})) (getD (advance (before 2) .orders) 0 (orderAt 2 0)) (List·Memᴰ·head refl), (still .order, still .live, still .named), t .ticket-given)
 
 -- ---- all of it of every image of bytes, and after every list, at 2 stations
 waiting-bytes : (Below byteLimit (waiting 0 .image)) × (Below byteLimit (waiting 1 .image)) × (Below byteLimit (waiting 2 .image))
 unfolding readRow opened waitingCalls waiting order started afterCall outcome afterAll passTo
 waiting-bytes =
-    (all-below 256 (waiting 0 .image) (omega arith) (refl {a = true}), all-below 256 (waiting 1 .image) (omega arith) (refl {a = true}), all-below 256 (waiting 2 .image) (omega arith) (refl {a = true}))
+    (all-bytes (waiting 0 .image) (refl {a = true}), all-bytes (waiting 1 .image) (refl {a = true}), all-bytes (waiting 2 .image) (refl {a = true}))
 
 -- These are the states that the images say.
 says : (decode (waiting 0 .image) ≡ before 0) × (decode (waiting 1 .image) ≡ before 1) × (decode (waiting 2 .image) ≡ before 2)

@@ -1,18 +1,18 @@
 -- How facts about definite lists are put together from their entries.
 use mathlib.Core.Path.{_≡_, refl, sym, ap, subst, _∙_}
 use mathlib.Core.Bool.{Bool, true, false, cond, true≢false}
-use mathlib.Core.Logic.{_≢_, inl, inr}
+use mathlib.Core.Logic.{inl, inr}
 use mathlib.Core.List.{List, [], _∷_, List·Memᴰ·head, List·Memᴰ·tail, List·Memᴰ·not-nil, List·Memᴰ·cases-cons}
-use Prim.Native.Nat.{ℕ, zero, suc, _≤_, _<_}
+use Prim.Native.Nat.{ℕ, _<_}
 use native.Mathlib.Omega.{arith}
-use lib.ListN.{length, getD, take, drop}
-use lib.Dec.{leb, ltb, eqb}
+use lib.Dec.{ltb}
 use lib.IntN.{ℤ, pos, negsuc}
 use lib.Signed.{ltZ}
-use borrow.Author.Tests.{leb-true, ltb-true, ltb-false, eqb-true, eq-eqb}
-use Rattle.model.specs.Lists.{within, isZero, at, all}
+use borrow.Author.Tests.{ltb-false}
+use Rattle.model.specs.Lists.{all}
 use Rattle.schedule.specs.Valid.{_∈_}
-use Rattle.lists.proofs.Tests.{and-both}
+use Rattle.image_laws.specs.InRange.{byteLimit, Below}
+use Rattle.image_laws.proofs.Tests.{ltb-says, entries-say}
 
 -- An equation between numbers, both of which are the figure: what is left of an equation that a claim gives in a definite case.
 abbrev pub Figure : ℕ → Type 0
@@ -27,27 +27,6 @@ of-two P x y p q e m = elim (List·Memᴰ·cases-cons m) [ inl i ↦ subst P (sy
 
 pub of-three : {A : Type 0} (P : A → Type 0) (x y z : A) → P x → P y → P z → (e : A) → e ∈ x ∷ y ∷ z ∷ [] → P e
 of-three P x y z p q r e m = elim (List·Memᴰ·cases-cons m) [ inl i ↦ subst P (sym i) p | inr n ↦ of-two P y z q r e n ]
-
--- Numbers of a row, by computed tests: the first n lie in a range, and all after them are 0.
-pub ranged : (low high n : ℕ) (l : List ℕ) → n ≤ length l → all (within low high) (take n l) ≡ true → (k : ℕ) → 1 ≤ k → k ≤ n → (low ≤ at 0 l k) × (at 0 l k ≤ high)
-unfolding all
-ranged low high n l long e zero some most = absurd (omega (arith, some))
-ranged low high zero l long e (suc k) some most = absurd (omega (arith, most))
-ranged low high (suc n) [] long e (suc k) some most = absurd (omega (arith, long))
-ranged low high (suc n) (x ∷ l) long e (suc zero) some most =
-    let b = and-both (leb low x) (leb x high) (and-both (within low high x) (all (within low high) (take n l)) e .0) in
-    (leb-true low x (b .0), leb-true x high (b .1))
-ranged low high (suc n) (x ∷ l) long e (suc (suc k)) some most =
-    ranged low high n l (omega (arith, long)) (and-both (within low high x) (all (within low high) (take n l)) e .1) (suc k) (omega arith) (omega (arith, most))
-
-pub zero-after : (n : ℕ) (l : List ℕ) → all isZero (drop n l) ≡ true → (k : ℕ) → n < k → at 0 l k ≡ 0
-unfolding all
-zero-after n l e zero above = absurd (omega (arith, above))
-zero-after n [] e (suc k) above = refl
-zero-after zero (x ∷ l) e (suc zero) above = eqb-true x 0 (and-both (isZero x) (all isZero l) e .0)
-zero-after zero (x ∷ l) e (suc (suc k)) above = zero-after zero l (and-both (isZero x) (all isZero l) e .1) (suc k) (omega arith)
-zero-after (suc n) (x ∷ l) e (suc zero) above = absurd (omega (arith, above))
-zero-after (suc n) (x ∷ l) e (suc (suc k)) above = zero-after n l e (suc k) (omega (arith, above))
 
 -- The smaller of two margins. What one of two orders has, with none below it, is that.
 abbrev pub smaller : ℤ → ℤ → ℤ
@@ -86,13 +65,6 @@ Yes = _≡_ {A = Bool} true true
 abbrev pub No : Type 0
 No = _≡_ {A = Bool} false false
 
--- Numbers that are all below a limit, by a computed test.
-pub all-below : (limit : ℕ) (l : List ℕ) → 1 ≤ limit → all (λ x. ltb x limit) l ≡ true → (i : ℕ) → getD l i 0 < limit
-unfolding all
-all-below limit [] some e i = omega (arith, some)
-all-below limit (x ∷ l) some e zero = ltb-true x limit (and-both (ltb x limit) (all (λ y. ltb y limit) l) e .0)
-all-below limit (x ∷ l) some e (suc i) = all-below limit l some (and-both (ltb x limit) (all (λ y. ltb y limit) l) e .1) i
-
--- Two figures that differ.
-pub differ : (a b : ℕ) → eqb a b ≡ false → a ≢ b
-differ a b e q = true≢false (sym (eq-eqb a b q) ∙ e)
+-- An image that is bytes, by a computed test.
+pub all-bytes : (l : List ℕ) → all (λ x. ltb x byteLimit) l ≡ true → Below byteLimit l
+all-bytes l = entries-say (λ x. ltb x byteLimit) (λ x. x < byteLimit) (λ x. ltb-says x byteLimit) 0 (omega arith) l .tells

@@ -1,11 +1,13 @@
 -- What an open returns, gives and leaves: its three questions are tests with their own words, and the fresh state has a sound image.
 use mathlib.Core.Path.{_≡_, refl}
+use mathlib.Core.Logic.{_≢_}
 use mathlib.Core.Bool.{Bool, true, false}
 use mathlib.Core.List.{List, [], _∷_, List·Memᴰ·not-nil}
 use Prim.Native.Nat.{ℕ}
 use native.Mathlib.Omega.{arith}
 use lib.ListN.{length}
 use lib.Dec.{eqb}
+use borrow.Author.Tests.{ne-eqb}
 use Rattle.model.specs.Limits.{maxStations}
 use Rattle.model.specs.Lists.{within}
 use Rattle.model.specs.State.{fresh}
@@ -46,9 +48,9 @@ module _ (image : List ℕ) (n : ℕ) (reply : List ℕ) where
       }
 
   module _ (done : openNumber image n reply ≡ 0) where
-    image-is : openCall image n reply .image ≡ encode (fresh n)
+    pub opened-image : openCall image n reply .image ≡ encode (fresh n)
     unfolding openCall result
-    image-is = rw done
+    opened-image = rw done
 
     no-ranks : ByteRanks (fresh n)
     unfolding fresh
@@ -57,7 +59,12 @@ module _ (image : List ℕ) (n : ℕ) (reply : List ℕ) where
     left : SoundImage (openCall image n reply .image) (fresh n)
     left =
         let o = open-done .only done in
-        rw image-is (sound-image (fresh n) (fresh-sound n (o .n-low) (o .n-high) .state) no-ranks)
+        rw opened-image (sound-image (fresh n) (fresh-sound n (o .n-low) (o .n-high) .state) no-ranks)
+
+-- "Every decline leaves the image alone."
+pub open-decline-leaves : (image : List ℕ) (n : ℕ) (reply : List ℕ) → openNumber image n reply ≢ 0 → openCall image n reply .image ≡ image
+unfolding openCall result
+open-decline-leaves image n reply other = rw (ne-eqb (openNumber image n reply) 0 other)
 
 pub opens-fresh : OpensFresh
 unfolding openCall result replyBytes
