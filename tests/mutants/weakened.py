@@ -91,9 +91,11 @@ def attempt(weakening):
     for name in crates:
         shutil.copytree(ROOT / "crates" / name, copy / "crates" / name, ignore=shutil.ignore_patterns("must-fail"))
     keep(copy, weakening.module)
-    for part in ("inc", "log", "rlib", "stamp"):
-        if (ROOT / "target" / part).is_dir():
-            shutil.copytree(ROOT / "target" / part, copy / "target" / part, symlinks=True)
+    # What rt keeps of these crates: those below the change are not proved again.
+    for part in ("log", "rlib", "stamp"):
+        kept = ROOT / "target" / part
+        shutil.copytree(kept, copy / "target" / part, symlinks=True,
+                        ignore=lambda folder, names, top=str(kept): [n for n in names if folder == top and n.split(".")[0] not in crates])
     texts, missing = weakening.apply(copy)
     if missing:
         return False, missing
