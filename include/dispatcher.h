@@ -136,6 +136,24 @@ extern "C" {
 #define DISPATCHER_ORDER_RANKS_AT 4  /* 8 ranks of 1 byte */
 #define DISPATCHER_ORDER_COSTS_AT 12 /* 8 costs of 2 bytes */
 
+/* The length in bytes of a station sheet, and where its fields begin. */
+#define DISPATCHER_SHEET_SIZE 32
+#define DISPATCHER_SHEET_FIXED_AT 0   /* 8 numbers of fixed ticks, 2 bytes each */
+#define DISPATCHER_SHEET_SPEEDS_AT 16 /* 8 speeds in millimetres per tick, 2 bytes each */
+
+/* The paper formats of ISO 216 that an order can name: 1 to this. */
+#define DISPATCHER_FORMAT_A1 1
+#define DISPATCHER_FORMAT_A2 2
+#define DISPATCHER_FORMAT_A3 3
+#define DISPATCHER_FORMAT_A4 4
+#define DISPATCHER_FORMAT_A5 5
+#define DISPATCHER_FORMAT_B1 6
+#define DISPATCHER_FORMAT_B2 7
+#define DISPATCHER_FORMAT_B3 8
+#define DISPATCHER_FORMAT_B4 9
+#define DISPATCHER_FORMAT_B5 10
+#define DISPATCHER_MAX_FORMAT 10
+
 /* Where the fields of a reply begin, 4 bytes each. */
 #define DISPATCHER_REPLY_NUMBER_AT 0
 #define DISPATCHER_REPLY_TICKET_AT 4
@@ -176,6 +194,8 @@ extern "C" {
 #define DISPATCHER_DELAYS_OTHERS 12   /* the order would be on time, and make a live order late */
 #define DISPATCHER_CLOCK_ENDED 13     /* the clock stands at DISPATCHER_LAST_TICK and goes no further */
 #define DISPATCHER_BAD_STATIONS 14    /* the number of stations is not 1 to DISPATCHER_MAX_STATIONS */
+#define DISPATCHER_BAD_FORMAT 19      /* the format is not 1 to DISPATCHER_MAX_FORMAT */
+#define DISPATCHER_BAD_SPEED 20       /* the sheet has a speed of 0 at a station that the cabinet has */
 
 /* Opens a cabinet: writes the image of a cabinet of `stations` stations whose clock stands at tick 0, which has no orders, and whose first
  * ticket will be 1. What the image held before does not matter and is lost: orders that were live are forgotten, and tickets are given a second time.
@@ -242,6 +262,14 @@ uint32_t dispatcher_quote(const uint8_t *image, size_t image_len, const uint8_t 
  * After DISPATCHER_LATE and DISPATCHER_DELAYS_OTHERS the margin is that same smallest margin, as it would be with the order accepted, and ticket and tick
  * are 0. It may be that of another order: also where the order itself is late, a live order may be later still. */
 uint32_t dispatcher_offer(uint8_t *image, size_t image_len, const uint8_t *order, size_t order_len, uint8_t *reply, size_t reply_len);
+
+/* dispatcher_quote of an order by its paper format. */
+uint32_t dispatcher_quote_format(const uint8_t *image, size_t image_len, uint32_t format, uint32_t due_in, uint8_t rank, const uint8_t *sheet, size_t sheet_len,
+                                 uint8_t *reply, size_t reply_len);
+
+/* dispatcher_offer of an order by its paper format. */
+uint32_t dispatcher_offer_format(uint8_t *image, size_t image_len, uint32_t format, uint32_t due_in, uint8_t rank, const uint8_t *sheet, size_t sheet_len,
+                                 uint8_t *reply, size_t reply_len);
 
 /* Lets one tick pass in the cabinet. The firmware calls it once in every 0.1 s, also while no order is live. In this order:
  *

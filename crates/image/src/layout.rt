@@ -76,6 +76,12 @@ pub const BLOCK_RANKS_AT: usize = 4;
 
 pub const BLOCK_COSTS_AT: usize = 12;
 
+pub const SHEET_SIZE: usize = 32;
+
+pub const SHEET_FIXED_AT: usize = 0;
+
+pub const SHEET_SPEEDS_AT: usize = 16;
+
 pub const REPLY_SIZE: usize = 16;
 
 pub const REPLY_NUMBER_AT: usize = 0;

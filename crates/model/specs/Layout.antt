@@ -105,6 +105,16 @@ blockRanksAt = 4
 abbrev pub blockCostsAt : ℕ
 blockCostsAt = 12
 
+-- Document 02, (i): "a station sheet of 32 bytes: eight fixed ticks, then eight speeds in millimetres per tick, 2 bytes each"
+abbrev pub sheetSize : ℕ
+sheetSize = 32
+
+abbrev pub sheetFixedAt : ℕ
+sheetFixedAt = 0
+
+abbrev pub sheetSpeedsAt : ℕ
+sheetSpeedsAt = 16
+
 -- "The reply holds number (0 for done), ticket, tick, margin (signed), 4 bytes each"
 abbrev pub replySize : ℕ
 replySize = 16

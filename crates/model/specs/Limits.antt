@@ -20,6 +20,10 @@ defaultDueIn = 18000
 abbrev pub maxLive : ℕ
 maxLive = 32
 
+-- Document 02, (i): "Formats are numbered 1 to 10 in that order"
+abbrev pub maxFormat : ℕ
+maxFormat = 10
+
 -- The last tick of the clock and of a due tick.
 abbrev pub lastTick : ℕ
 lastTick = 4000000000

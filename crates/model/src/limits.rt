@@ -9,6 +9,8 @@ pub const DEFAULT_DUE_IN: u64 = 18000;
 
 pub const MAX_LIVE: u8 = 32;
 
+pub const MAX_FORMAT: u32 = 10;
+
 pub const LAST_TICK: u32 = 4000000000;
 
 pub const LAST_TICKET: u32 = 4294967295;

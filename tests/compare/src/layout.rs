@@ -40,6 +40,10 @@ pub const BLOCK_DUE_IN_AT: usize = 0;
 pub const BLOCK_RANKS_AT: usize = 4;
 pub const BLOCK_COSTS_AT: usize = 12;
 
+pub const SHEET_SIZE: usize = 32;
+pub const SHEET_FIXED_AT: usize = 0;
+pub const SHEET_SPEEDS_AT: usize = 16;
+
 pub const REPLY_SIZE: usize = 16;
 pub const REPLY_NUMBER_AT: usize = 0;
 pub const REPLY_TICKET_AT: usize = 4;
@@ -51,6 +55,7 @@ pub const MAX_COST: u16 = 6_000;
 pub const MAX_DUE_IN: u32 = 60_000;
 pub const DEFAULT_DUE_IN: u32 = 18_000;
 pub const MAX_LIVE: usize = 32;
+pub const MAX_FORMAT: u32 = 10;
 pub const LAST_TICK: u32 = 4_000_000_000;
 pub const LAST_TICKET: u32 = 4_294_967_295;
 
