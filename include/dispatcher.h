@@ -36,6 +36,30 @@
  *
  * Ranks and costs of stations that the cabinet does not have are 0.
  *
+ * AN ORDER BY PAPER FORMAT
+ *
+ * A counter that knows formats, and not ticks, gives a format, a due-in and one rank, which the order has at every station. Beside these stands the station
+ * sheet, DISPATCHER_SHEET_SIZE bytes (32), numbers with the low byte first:
+ *
+ *     bytes  0 to 15   eight numbers of fixed ticks, 2 bytes each, for stations 1 to 8: what an order of any format takes there
+ *     bytes 16 to 31   eight speeds of 2 bytes, for stations 1 to 8: how many millimetres of paper go through the station in a tick, 1 or more
+ *
+ * What the sheet holds for stations that the cabinet does not have is not read. The formats are those of ISO 216 that follow, each with its number and its
+ * long side in millimetres:
+ *
+ *     A1   1    841        B1   6   1000
+ *     A2   2    594        B2   7    707
+ *     A3   3    420        B3   8    500
+ *     A4   4    297        B4   9    353
+ *     A5   5    210        B5  10    250
+ *
+ * The cost at a station is its fixed ticks plus the long side divided by its speed, rounded up. With 2 fixed ticks and 100 millimetres per tick A4 costs
+ * 2 + 3 = 5 ticks, since 297 / 100 = 2.97 is rounded up to 3, and A3 costs 2 + 5 = 7.
+ *
+ * The order counts as the block that it stands for: its due-in, its rank and these costs at the stations that the cabinet has, and 0 at the others. Quoted or
+ * offered, it gets the reply that this block gets, and leaves the image that this block leaves. A cost that 2 bytes could not hold is out of range like any
+ * other above DISPATCHER_MAX_COST: 65,535 fixed ticks and 1 more are not 0.
+ *
  * ON TIME
  *
  * The due tick of an order is the tick at which it was accepted plus its due-in. An order is accepted only if it and every live order are then sure to be
@@ -64,9 +88,9 @@
  *
  * WHAT IS SAFE
  *
- * A buffer is passed as a pointer and then its length in bytes. Every length is safe, and so are all bytes that a buffer may hold: a wrong length
- * or a wrong value gets a number and nothing else happens. No call reads or writes outside the buffers that it is lent, and every call
- * returns. With a length of 0 the pointer may be anything, NULL included; it is not used.
+ * A buffer is passed as a pointer and then its length in bytes. Every length is safe, and so are all bytes that a buffer may hold and all values of the other
+ * arguments: a wrong length or a wrong value gets a number and nothing else happens. No call reads or writes outside the buffers that it is lent, and every
+ * call returns. With a length of 0 the pointer may be anything, NULL included; it is not used.
  *
  * A POWER CUT
  *
@@ -81,13 +105,14 @@
  *        not in use; when all of its bytes have arrived there, write the one byte that says which place is in use.
  *     3. Only then tell the customer, or start a motor.
  *
- * dispatcher_quote, and a call that is declined, write no byte of the image at any moment.
+ * dispatcher_quote, dispatcher_quote_format, and a call that is declined, write no byte of the image at any moment.
  *
  * THE STACK
  *
- * A call needs no more stack than DISPATCHER_OPEN_STACK, DISPATCHER_QUOTE_STACK, DISPATCHER_OFFER_STACK or DISPATCHER_ADVANCE_STACK bytes (below), whatever
- * the buffers hold. They are counted from the caller's stack pointer before the call, so the return address is in them, and the caller's own frame is not.
- * The figures are for the library as the Rattle toolchain builds it for x86-64: the depth that its instructions can reach, rounded up to whole 256 bytes. A
+ * A call needs no more stack than DISPATCHER_OPEN_STACK, DISPATCHER_QUOTE_STACK, DISPATCHER_OFFER_STACK, DISPATCHER_QUOTE_FORMAT_STACK,
+ * DISPATCHER_OFFER_FORMAT_STACK or DISPATCHER_ADVANCE_STACK bytes (below), whatever the buffers hold. They are counted from the caller's stack pointer before
+ * the call, so the return address is in them, and the caller's own frame is not, in which it passes the last three arguments of the two format calls. The
+ * figures are for the library as the Rattle toolchain builds it for x86-64: the depth that its instructions can reach, rounded up to whole 256 bytes. A
  * function that uses bytes below its stack pointer is counted with 128 of them, and each of the four functions of the C library with its return address and
  * 128 bytes. What an interrupt or a signal takes of the same stack comes on top, and so does what a dynamic linker takes if it looks for one of these
  * functions on its first use.
@@ -141,7 +166,7 @@ extern "C" {
 #define DISPATCHER_SHEET_FIXED_AT 0   /* 8 numbers of fixed ticks, 2 bytes each */
 #define DISPATCHER_SHEET_SPEEDS_AT 16 /* 8 speeds in millimetres per tick, 2 bytes each */
 
-/* The paper formats of ISO 216 that an order can name: 1 to this. */
+/* The paper formats of ISO 216 that an order can name, and the last of their numbers. */
 #define DISPATCHER_FORMAT_A1 1
 #define DISPATCHER_FORMAT_A2 2
 #define DISPATCHER_FORMAT_A3 3
@@ -176,6 +201,8 @@ extern "C" {
 #define DISPATCHER_OPEN_STACK 256
 #define DISPATCHER_QUOTE_STACK 2560
 #define DISPATCHER_OFFER_STACK 2560
+#define DISPATCHER_QUOTE_FORMAT_STACK 2816
+#define DISPATCHER_OFFER_FORMAT_STACK 2816
 #define DISPATCHER_ADVANCE_STACK 2816
 
 /* The numbers that the calls below return. */
@@ -184,7 +211,7 @@ extern "C" {
 #define DISPATCHER_BAD_IMAGE_LENGTH 2 /* the image is not DISPATCHER_IMAGE_SIZE bytes long */
 #define DISPATCHER_BAD_MARK 3         /* these bytes are no image, or one of another version */
 #define DISPATCHER_BAD_IMAGE 4        /* the image contradicts itself: it has been damaged */
-#define DISPATCHER_BAD_ORDER_LENGTH 5 /* the order block is not DISPATCHER_ORDER_SIZE bytes long */
+#define DISPATCHER_BAD_ORDER_LENGTH 5 /* the order block is not DISPATCHER_ORDER_SIZE bytes long, or the station sheet not DISPATCHER_SHEET_SIZE */
 #define DISPATCHER_BAD_ORDER 6        /* a cost is not 1 to DISPATCHER_MAX_COST, or a cost or rank of a station that is not there is not 0 */
 #define DISPATCHER_BAD_DUE_IN 7       /* the due-in is above DISPATCHER_MAX_DUE_IN */
 #define DISPATCHER_DUE_TOO_FAR 8      /* the due tick is above DISPATCHER_LAST_TICK */
@@ -263,11 +290,51 @@ uint32_t dispatcher_quote(const uint8_t *image, size_t image_len, const uint8_t 
  * are 0. It may be that of another order: also where the order itself is late, a live order may be later still. */
 uint32_t dispatcher_offer(uint8_t *image, size_t image_len, const uint8_t *order, size_t order_len, uint8_t *reply, size_t reply_len);
 
-/* dispatcher_quote of an order by its paper format. */
+/* Asks what dispatcher_offer_format would do with an order by its paper format, and changes nothing in the image.
+ *
+ *     image, image_len   the image
+ *     format             the format, DISPATCHER_FORMAT_A1 to DISPATCHER_FORMAT_B5
+ *     due_in             in how many ticks from now the order is due, as in an order block
+ *     rank               its rank at every station
+ *     sheet, sheet_len   the station sheet
+ *     reply, reply_len   the reply to be written
+ *
+ * Returns the number that dispatcher_offer_format would return, and the reply is the one that it would give, but for the ticket, which is always 0. What is
+ * quoted holds as long as the image is the same. */
 uint32_t dispatcher_quote_format(const uint8_t *image, size_t image_len, uint32_t format, uint32_t due_in, uint8_t rank, const uint8_t *sheet, size_t sheet_len,
                                  uint8_t *reply, size_t reply_len);
 
-/* dispatcher_offer of an order by its paper format. */
+/* Offers an order by its paper format to the cabinet, which accepts it or declines it. An order that is accepted waits at station 1.
+ *
+ *     image, image_len   the image; if the order is accepted it is changed
+ *     format             the format, DISPATCHER_FORMAT_A1 to DISPATCHER_FORMAT_B5
+ *     due_in             in how many ticks from now the order is due, as in an order block
+ *     rank               its rank at every station
+ *     sheet, sheet_len   the station sheet
+ *     reply, reply_len   the reply to be written
+ *
+ * Returns the first of these that fits:
+ *
+ *     DISPATCHER_BAD_REPLY_LENGTH   (1)  reply_len is not DISPATCHER_REPLY_SIZE. Nothing was written.
+ *     DISPATCHER_BAD_IMAGE_LENGTH   (2)  image_len is not DISPATCHER_IMAGE_SIZE.
+ *     DISPATCHER_BAD_MARK           (3)  the image does not begin with the mark and version that dispatcher_open writes.
+ *     DISPATCHER_BAD_IMAGE          (4)  the image contradicts itself.
+ *     DISPATCHER_BAD_ORDER_LENGTH   (5)  sheet_len is not DISPATCHER_SHEET_SIZE.
+ *     DISPATCHER_BAD_FORMAT        (19)  format is not 1 to DISPATCHER_MAX_FORMAT.
+ *     DISPATCHER_BAD_SPEED         (20)  the sheet has a speed of 0 at a station that the cabinet has.
+ *     DISPATCHER_BAD_ORDER          (6)  the cost at a station is above DISPATCHER_MAX_COST.
+ *     DISPATCHER_BAD_DUE_IN         (7)  due_in is above DISPATCHER_MAX_DUE_IN.
+ *     DISPATCHER_DUE_TOO_FAR        (8)  the due tick would be above DISPATCHER_LAST_TICK.
+ *     DISPATCHER_NO_TICKET          (9)  no ticket is left.
+ *     DISPATCHER_FULL              (10)  DISPATCHER_MAX_LIVE orders are live.
+ *     DISPATCHER_LATE              (11)  the order would be late. The margin is below zero.
+ *     DISPATCHER_DELAYS_OTHERS     (12)  the order would be on time, but a live order would be late. The margin is below zero.
+ *     DISPATCHER_DONE               (0)  the order is accepted, and the image was changed.
+ *
+ * An image that dispatcher_open made, that was not opened again, that only calls of this header have changed, each of which came to its end, and that is lent
+ * whole, never gets 2, 3 or 4.
+ *
+ * The reply after DISPATCHER_DONE, DISPATCHER_LATE and DISPATCHER_DELAYS_OTHERS is that of dispatcher_offer. */
 uint32_t dispatcher_offer_format(uint8_t *image, size_t image_len, uint32_t format, uint32_t due_in, uint8_t rank, const uint8_t *sheet, size_t sheet_len,
                                  uint8_t *reply, size_t reply_len);
 
