@@ -13,20 +13,9 @@
 #include <stdio.h>
 #include <stdlib.h>
 
-#define NUMBERS 15
-
 static unsigned long seen[CALLS][NUMBERS]; /* by number */
-static unsigned long offers_at[ORDERS + 1], advances_at[ORDERS + 1], outs_at[ORDERS + 1]; /* done offers, done advances, orders out, by live orders before */
-
-/* The numbers that a call can give. */
-static int gives(int call, int number)
-{
-    switch (call) {
-    case OPEN: return number <= 2 || number == 14;
-    case ADVANCE: return number <= 4 || number == 13;
-    default: return number <= 12;
-    }
-}
+/* Done offers, of a block or by format, done advances, orders out, by live orders before. */
+static unsigned long offers_at[ORDERS + 1], advances_at[ORDERS + 1], outs_at[ORDERS + 1];
 
 /* The calls by one of the three. */
 static const struct contender {
@@ -34,11 +23,13 @@ static const struct contender {
     uint32_t (*open)(uint8_t *, size_t, uint32_t, uint8_t *, size_t);
     uint32_t (*quote)(const uint8_t *, size_t, const uint8_t *, size_t, uint8_t *, size_t);
     uint32_t (*offer)(uint8_t *, size_t, const uint8_t *, size_t, uint8_t *, size_t);
+    uint32_t (*quote_format)(const uint8_t *, size_t, uint32_t, uint32_t, uint8_t, const uint8_t *, size_t, uint8_t *, size_t);
+    uint32_t (*offer_format)(uint8_t *, size_t, uint32_t, uint32_t, uint8_t, const uint8_t *, size_t, uint8_t *, size_t);
     uint32_t (*advance)(uint8_t *, size_t, uint8_t *, size_t);
 } contenders[] = {
-    {"library", dispatcher_open, dispatcher_quote, dispatcher_offer, dispatcher_advance},
-    {"C by gcc", gcc_plain_open, gcc_counter_quote, gcc_counter_offer, gcc_plain_advance},
-    {"C by clang", clang_plain_open, clang_counter_quote, clang_counter_offer, clang_plain_advance},
+    {"library", dispatcher_open, dispatcher_quote, dispatcher_offer, dispatcher_quote_format, dispatcher_offer_format, dispatcher_advance},
+    {"C by gcc", gcc_plain_open, gcc_counter_quote, gcc_counter_offer, gcc_counter_quote_format, gcc_counter_offer_format, gcc_plain_advance},
+    {"C by clang", clang_plain_open, clang_counter_quote, clang_counter_offer, clang_counter_quote_format, clang_counter_offer_format, clang_plain_advance},
 };
 #define CONTENDERS 3
 
@@ -60,11 +51,18 @@ static void make_call(const struct contender *by, const struct listed *l, const 
     o->image = *image;
     o->reply = l->reply;
     uint8_t *at = o->image.at, *reply = o->reply.at;
-    size_t length = image->length, reply_length = l->reply.length;
+    const uint8_t *argument = l->argument.at;
+    size_t length = image->length, argument_length = l->argument.length, reply_length = l->reply.length;
     switch (l->call) {
     case OPEN: o->number = by->open(at, length, l->stations, reply, reply_length); break;
-    case QUOTE: o->number = by->quote(at, length, l->argument.at, l->argument.length, reply, reply_length); break;
-    case OFFER: o->number = by->offer(at, length, l->argument.at, l->argument.length, reply, reply_length); break;
+    case QUOTE: o->number = by->quote(at, length, argument, argument_length, reply, reply_length); break;
+    case OFFER: o->number = by->offer(at, length, argument, argument_length, reply, reply_length); break;
+    case QUOTE_FORMAT:
+        o->number = by->quote_format(at, length, l->format, l->due_in, l->rank, argument, argument_length, reply, reply_length);
+        break;
+    case OFFER_FORMAT:
+        o->number = by->offer_format(at, length, l->format, l->due_in, l->rank, argument, argument_length, reply, reply_length);
+        break;
     default: o->number = by->advance(at, length, reply, reply_length);
     }
 }
@@ -89,7 +87,7 @@ static void compare_call(const struct listed *l, struct bytes *image)
         list_fail("the simulator gives another number, reply or image");
 
     seen[l->call][library->number]++;
-    if (library->number == 0 && l->call == OFFER)
+    if (library->number == 0 && (l->call == OFFER || l->call == OFFER_FORMAT))
         offers_at[image->at[LIVE_COUNT_AT]]++;
     if (library->number == 0 && l->call == ADVANCE) {
         advances_at[image->at[LIVE_COUNT_AT]]++;
@@ -118,11 +116,11 @@ int main(int argc, char **argv)
     for (int k = 1; k < argc; k++)
         images += each_call(argv[k], compare_call);
 
-    printf("%7s", "number");
+    printf("%12s", "number");
     for (int number = 0; number < NUMBERS; number++)
         printf(" %6d", number);
     for (int call = OPEN; call < CALLS; call++) {
-        printf("\n%7s", call_names[call]);
+        printf("\n%12s", call_names[call]);
         for (int number = 0; number < NUMBERS; number++) {
             printf(" %6lu", seen[call][number]);
             calls += seen[call][number];

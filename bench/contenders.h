@@ -16,6 +16,10 @@
 BY_BOTH(uint32_t, plain_open, uint8_t *image, size_t image_len, uint32_t stations, uint8_t *reply, size_t reply_len);
 BY_BOTH(uint32_t, counter_quote, const uint8_t *image, size_t image_len, const uint8_t *order, size_t order_len, uint8_t *reply, size_t reply_len);
 BY_BOTH(uint32_t, counter_offer, uint8_t *image, size_t image_len, const uint8_t *order, size_t order_len, uint8_t *reply, size_t reply_len);
+BY_BOTH(uint32_t, counter_quote_format, const uint8_t *image, size_t image_len, uint32_t format, uint32_t due_in, uint8_t rank, const uint8_t *sheet,
+        size_t sheet_len, uint8_t *reply, size_t reply_len);
+BY_BOTH(uint32_t, counter_offer_format, uint8_t *image, size_t image_len, uint32_t format, uint32_t due_in, uint8_t rank, const uint8_t *sheet,
+        size_t sheet_len, uint8_t *reply, size_t reply_len);
 BY_BOTH(uint32_t, plain_advance, uint8_t *image, size_t image_len, uint8_t *reply, size_t reply_len);
 BY_BOTH(void, decode, struct cabinet *cabinet, const uint8_t image[IMAGE_SIZE]);
 BY_BOTH(void, encode, uint8_t image[IMAGE_SIZE], const struct cabinet *cabinet);

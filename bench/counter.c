@@ -1,7 +1,8 @@
-/* Quote and offer in plain C, to measure the library against.
+/* Quote and offer, of a block and by format, in plain C, to measure the library against.
  *
  * Nothing is decoded: one pass over the live records asks whether they are sound and works out, at the same time, the company of the newcomer and the margin
- * of each live order with the newcomer in its company. Offer goes over them a second time, and only when it is done, to write. */
+ * of each live order with the newcomer in its company. Offer goes over them a second time, and only when it is done, to write. An order by format is first made
+ * the block that it stands for. */
 #include "counter.h"
 #include "records.h"
 
@@ -25,8 +26,9 @@ static inline int costs_fit(const uint16_t costs[STATIONS], const struct limits 
     return bad == 0;
 }
 
-/* Questions 2 to 12, after 1. Along with soundness the sums are worked out, whatever the block holds; they count once 5 to 10 are passed. */
-static uint32_t consider(const uint8_t *image, size_t image_len, const uint8_t *order, size_t order_len, struct newcomer *c)
+/* Questions 2 to 12, after 1. `unread` is 0, or the number for which there is no block: 5, or 19 or 20 of an order by format. Along with soundness the sums are
+ * worked out, whatever the block holds; they count once 5 to 10 are passed. */
+static uint32_t consider(const uint8_t *image, size_t image_len, const uint8_t *order, uint32_t unread, struct newcomer *c)
 {
     c->ticket = 0;
     c->tick = 0;
@@ -42,7 +44,7 @@ static uint32_t consider(const uint8_t *image, size_t image_len, const uint8_t *
     const struct limits l = limits_for((uint16_t)n);
 
     memset(c->costs, 0, sizeof c->costs);
-    if (order_len == BLOCK_SIZE)
+    if (unread == 0)
         memcpy(c->costs, order + BLOCK_COSTS_AT, sizeof c->costs);
     c->largest = largest(c->costs);
     c->sum = c->largest;
@@ -101,8 +103,8 @@ static uint32_t consider(const uint8_t *image, size_t image_len, const uint8_t *
     if (memcmp(record, unused, (ORDERS - live) * RECORD_SIZE) != 0)
         return 4;
 
-    if (order_len != BLOCK_SIZE)
-        return 5;
+    if (unread != 0)
+        return unread;
     if (!costs_fit(c->costs, &l) || !ranks_fit(get8(order + BLOCK_RANKS_AT), n))
         return 6;
     uint32_t due_in = get4(order + BLOCK_DUE_IN_AT);
@@ -166,23 +168,71 @@ static uint32_t answer(uint8_t *reply, uint32_t number, const struct newcomer *c
     return number;
 }
 
-uint32_t counter_quote(const uint8_t *image, size_t image_len, const uint8_t *order, size_t order_len, uint8_t *reply, size_t reply_len)
+static uint32_t quote(const uint8_t *image, size_t image_len, const uint8_t *order, uint32_t unread, uint8_t *reply)
 {
     struct newcomer c;
-    if (reply_len != REPLY_SIZE)
-        return 1;
-    uint32_t number = consider(image, image_len, order, order_len, &c);
+    uint32_t number = consider(image, image_len, order, unread, &c);
     c.ticket = 0;
     return answer(reply, number, &c);
 }
 
-uint32_t counter_offer(uint8_t *image, size_t image_len, const uint8_t *order, size_t order_len, uint8_t *reply, size_t reply_len)
+static uint32_t offer(uint8_t *image, size_t image_len, const uint8_t *order, uint32_t unread, uint8_t *reply)
 {
     struct newcomer c;
-    if (reply_len != REPLY_SIZE)
-        return 1;
-    uint32_t number = consider(image, image_len, order, order_len, &c);
+    uint32_t number = consider(image, image_len, order, unread, &c);
     if (number == 0)
         accept(image, order, &c);
     return answer(reply, number, &c);
+}
+
+uint32_t counter_quote(const uint8_t *image, size_t image_len, const uint8_t *order, size_t order_len, uint8_t *reply, size_t reply_len)
+{
+    return reply_len != REPLY_SIZE ? 1 : quote(image, image_len, order, order_len == BLOCK_SIZE ? 0 : 5, reply);
+}
+
+uint32_t counter_offer(uint8_t *image, size_t image_len, const uint8_t *order, size_t order_len, uint8_t *reply, size_t reply_len)
+{
+    return reply_len != REPLY_SIZE ? 1 : offer(image, image_len, order, order_len == BLOCK_SIZE ? 0 : 5, reply);
+}
+
+/* The block of an order by format, or the number of 5, 19 and 20 for which there is none. The image has not been looked at yet, so n may be any byte. */
+static uint32_t write_block(uint8_t *block, uint32_t n, uint32_t format, uint32_t due_in, uint8_t rank, const uint8_t *sheet, size_t sheet_len)
+{
+    static const uint16_t long_sides[MAX_FORMAT] = {841, 594, 420, 297, 210, 1000, 707, 500, 353, 250};
+    if (sheet_len != SHEET_SIZE)
+        return 5;
+    if (format < 1 || format > MAX_FORMAT)
+        return 19;
+    uint32_t side = long_sides[format - 1];
+    memset(block, 0, BLOCK_SIZE);
+    put4(block + BLOCK_DUE_IN_AT, due_in);
+    for (uint32_t j = 0; j < n && j < STATIONS; j++) {
+        uint32_t speed = get2(sheet + SHEET_SPEEDS_AT + 2 * j);
+        if (speed == 0)
+            return 20;
+        uint32_t cost = get2(sheet + SHEET_FIXED_AT + 2 * j) + (side + speed - 1) / speed;
+        block[BLOCK_RANKS_AT + j] = rank;
+        put2(block + BLOCK_COSTS_AT + 2 * j, (uint16_t)(cost > MAX_COST ? MAX_COST + 1 : cost));
+    }
+    return 0;
+}
+
+uint32_t counter_quote_format(const uint8_t *image, size_t image_len, uint32_t format, uint32_t due_in, uint8_t rank, const uint8_t *sheet, size_t sheet_len,
+                              uint8_t *reply, size_t reply_len)
+{
+    uint8_t block[BLOCK_SIZE];
+    if (reply_len != REPLY_SIZE)
+        return 1;
+    uint32_t unread = image_len == IMAGE_SIZE ? write_block(block, image[STATION_COUNT_AT], format, due_in, rank, sheet, sheet_len) : 2;
+    return quote(image, image_len, block, unread, reply);
+}
+
+uint32_t counter_offer_format(uint8_t *image, size_t image_len, uint32_t format, uint32_t due_in, uint8_t rank, const uint8_t *sheet, size_t sheet_len,
+                              uint8_t *reply, size_t reply_len)
+{
+    uint8_t block[BLOCK_SIZE];
+    if (reply_len != REPLY_SIZE)
+        return 1;
+    uint32_t unread = image_len == IMAGE_SIZE ? write_block(block, image[STATION_COUNT_AT], format, due_in, rank, sheet, sheet_len) : 2;
+    return offer(image, image_len, block, unread, reply);
 }

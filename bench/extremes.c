@@ -54,18 +54,24 @@ static void make_image(struct extreme *e, int n, int live, enum spread spread, e
             figure_words[figures], end_words[end]);
 }
 
-/* An order of n stations: in time by itself; late by itself; of a cost that is out of range at the last station; due too late. */
+/* An order of n stations: in time by itself; late by itself; of a cost that is out of range at the last station; due too late. By its format it is B1, 1,000
+ * millimetres: at station j + 1 they go through in 10 - j ticks, and the other ticks are fixed ones. */
 #define ORDER_KINDS 4
-static void make_block(uint8_t *order, int n, int kind)
+static void make_order(struct extreme *e, int n, int kind)
 {
-    memset(order, 0, BLOCK_SIZE);
-    put4(order + BLOCK_DUE_IN_AT, kind == 1 ? 99 : kind == 3 ? MAX_DUE_IN + 1 : MAX_DUE_IN);
+    memset(e->order, 0, BLOCK_SIZE);
+    memset(e->sheet, 0, SHEET_SIZE);
+    e->format = DISPATCHER_FORMAT_B1;
+    e->due_in = kind == 1 ? 99 : kind == 3 ? MAX_DUE_IN + 1 : MAX_DUE_IN;
+    e->rank = 7;
+    put4(e->order + BLOCK_DUE_IN_AT, e->due_in);
     for (int j = 0; j < n; j++) {
-        order[BLOCK_RANKS_AT + j] = 7;
-        put2(order + BLOCK_COSTS_AT + 2 * j, 100);
+        uint16_t cost = kind == 2 && j == n - 1 ? MAX_COST + 1 : 100, through = (uint16_t)(10 - j);
+        e->order[BLOCK_RANKS_AT + j] = e->rank;
+        put2(e->order + BLOCK_COSTS_AT + 2 * j, cost);
+        put2(e->sheet + SHEET_FIXED_AT + 2 * j, (uint16_t)(cost - through));
+        put2(e->sheet + SHEET_SPEEDS_AT + 2 * j, (uint16_t)((1000 + through - 1) / through));
     }
-    if (kind == 2)
-        put2(order + BLOCK_COSTS_AT + 2 * (n - 1), MAX_COST + 1);
 }
 
 unsigned long each_sound(visit *visit)
@@ -79,7 +85,7 @@ unsigned long each_sound(visit *visit)
                     for (int rest = 0; rest < 2 * FIGURES * ENDS; rest++) {
                         make_image(&e, n, live, spread, serving, rest % 2, rest / 2 % FIGURES, rest / (2 * FIGURES));
                         for (int kind = 0; kind < ORDER_KINDS; kind++, count++) {
-                            make_block(e.order, n, kind);
+                            make_order(&e, n, kind);
                             visit(&e);
                         }
                     }
@@ -96,7 +102,7 @@ unsigned long each_damaged(visit *visit)
     unsigned long count = 0;
     for (size_t b = 0; b < sizeof bases / sizeof *bases; b++) {
         make_image(&base, bases[b].n, bases[b].live, SPREAD, bases[b].serving, 1, SMALL, MIDDLE);
-        make_block(base.order, bases[b].n, 0);
+        make_order(&base, bases[b].n, 0);
         for (int at = 0; at < IMAGE_SIZE; at++)
             for (int way = 0; way < 3; way++, count++) {
                 e = base;

@@ -1,5 +1,5 @@
 /* Calls at the edges of what document 01 allows, for those who look for the slowest call and for the one with the deepest stack: tens of thousands of images,
- * sound ones of every shape and the same with one byte changed, each with an order block. */
+ * sound ones of every shape and the same with one byte changed, each with an order, as a block and by its format. */
 #ifndef EXTREMES_H
 #define EXTREMES_H
 
@@ -8,6 +8,8 @@
 struct extreme {
     char what[160]; /* in words */
     uint8_t image[IMAGE_SIZE], order[BLOCK_SIZE];
+    uint32_t format, due_in; /* the same order by its format, with its sheet */
+    uint8_t rank, sheet[SHEET_SIZE];
 };
 
 typedef void visit(const struct extreme *extreme);

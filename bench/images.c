@@ -33,22 +33,30 @@ void sound_image(uint8_t *image, int live)
     encode(image, &c);
 }
 
-void make_order(uint8_t *order, int i)
+void make_order(struct order_forms *order, int i)
 {
-    put4(order + BLOCK_DUE_IN_AT, MAX_DUE_IN);
+    static const uint32_t sides[MAX_FORMAT] = {841, 594, 420, 297, 210, 1000, 707, 500, 353, 250};
+    order->format = 1 + (uint32_t)i % MAX_FORMAT;
+    order->due_in = MAX_DUE_IN;
+    order->rank = (uint8_t)(37 * i);
+    put4(order->block + BLOCK_DUE_IN_AT, order->due_in);
     for (int j = 0; j < STATIONS; j++) {
-        order[BLOCK_RANKS_AT + j] = (uint8_t)(37 * i + 11 * j);
-        put2(order + BLOCK_COSTS_AT + 2 * j, (uint16_t)(50 + (37 * i + 61 * j) % 151));
+        /* At a speed of 20 or more, even B1 takes no more than the 50 ticks that every order has. */
+        uint32_t cost = 50 + (uint32_t)(37 * i + 61 * j) % 151, speed = 20 + (uint32_t)(17 * i + 13 * j) % 100;
+        order->block[BLOCK_RANKS_AT + j] = order->rank;
+        put2(order->block + BLOCK_COSTS_AT + 2 * j, (uint16_t)cost);
+        put2(order->sheet + SHEET_FIXED_AT + 2 * j, (uint16_t)(cost - (sides[order->format - 1] + speed - 1) / speed));
+        put2(order->sheet + SHEET_SPEEDS_AT + 2 * j, (uint16_t)speed);
     }
 }
 
-void counter_image(uint8_t *image, uint8_t *order, int live)
+void counter_image(uint8_t *image, struct order_forms *order, int live)
 {
     uint8_t reply[REPLY_SIZE];
     uint32_t number = dispatcher_open(image, IMAGE_SIZE, STATIONS, reply, REPLY_SIZE);
     for (int i = 0; i < live; i++) {
         make_order(order, i);
-        number += dispatcher_offer(image, IMAGE_SIZE, order, BLOCK_SIZE, reply, REPLY_SIZE);
+        number += dispatcher_offer(image, IMAGE_SIZE, order->block, BLOCK_SIZE, reply, REPLY_SIZE);
         for (int k = 0; k < 600 / live; k++)
             number += dispatcher_advance(image, IMAGE_SIZE, reply, REPLY_SIZE);
     }

@@ -9,7 +9,16 @@
 #error "-DLEVEL is missing, the level of tests/level as a string"
 #endif
 
-const char *const call_names[CALLS] = {"open", "quote", "offer", "advance"};
+const char *const call_names[CALLS] = {"open", "quote", "offer", "quote_format", "offer_format", "advance"};
+
+int gives(int call, int number)
+{
+    switch (call) {
+    case OPEN: return number <= 2 || number == 14;
+    case ADVANCE: return number <= 4 || number == 13;
+    default: return number <= 12 || (by_format(call) && (number == 19 || number == 20));
+    }
+}
 
 static const char *file_name;
 static unsigned long line_number;
@@ -69,26 +78,40 @@ int as_told(const struct listed *listed, uint32_t number, const struct bytes *re
     return number == listed->told_number && same_bytes(reply, &listed->told_reply) && hash(image) == listed->told_hash;
 }
 
-/* ARGUMENT REPLY-BEFORE -> NUMBER REPLY-AFTER HASH; advance has no argument. */
+/* Numbers are written with their high digit first. */
+static uint32_t read_number(const char *text)
+{
+    if (text == NULL)
+        list_fail("a word is missing");
+    return (uint32_t)strtoul(text, NULL, 16);
+}
+
+/* ARGUMENT REPLY-BEFORE -> NUMBER REPLY-AFTER HASH; advance has no argument, and an order by format FORMAT DUE-IN RANK SHEET. */
 static void read_call(struct listed *l, char *rest)
 {
+    const char *word = strtok(rest, " ");
     l->argument.length = 0;
-    if (l->call != ADVANCE)
-        read_bytes(&l->argument, strtok(rest, " "));
-    read_bytes(&l->reply, strtok(l->call == ADVANCE ? rest : NULL, " "));
+    l->stations = 0;
+    if (by_format(l->call)) {
+        l->format = read_number(word);
+        l->due_in = read_number(strtok(NULL, " "));
+        l->rank = (uint8_t)read_number(strtok(NULL, " "));
+        word = strtok(NULL, " ");
+    }
+    if (l->call == OPEN)
+        l->stations = read_number(word);
+    else if (l->call != ADVANCE)
+        read_bytes(&l->argument, word);
+    read_bytes(&l->reply, l->call == ADVANCE ? word : strtok(NULL, " "));
     const char *arrow = strtok(NULL, " "), *number = strtok(NULL, " ");
     if (arrow == NULL || strcmp(arrow, "->") != 0 || number == NULL)
         list_fail("not of the form");
     l->told_number = (uint32_t)strtoul(number, NULL, 10);
     read_bytes(&l->told_reply, strtok(NULL, " "));
     const char *told_hash = strtok(NULL, " ");
-    if (l->told_number > 14 || told_hash == NULL)
+    if (l->told_number >= NUMBERS || told_hash == NULL)
         list_fail("not of the form");
     l->told_hash = strtoull(told_hash, NULL, 16);
-    l->stations = 0;
-    if (l->call == OPEN) /* written with its high digit first */
-        for (size_t i = 0; i < l->argument.length; i++)
-            l->stations = l->stations << 8 | l->argument.at[i];
 }
 
 unsigned long each_call(const char *name, on_call *call)

@@ -13,14 +13,26 @@ struct bytes {
     size_t length;
 };
 
-enum { OPEN, QUOTE, OFFER, ADVANCE, CALLS };
+enum { OPEN, QUOTE, OFFER, QUOTE_FORMAT, OFFER_FORMAT, ADVANCE, CALLS };
 extern const char *const call_names[CALLS];
+
+/* Whether the call is about an order by its paper format. */
+static inline int by_format(int call)
+{
+    return call == QUOTE_FORMAT || call == OFFER_FORMAT;
+}
+
+/* The numbers that a call can give are below this; and whether it can give one. */
+#define NUMBERS 21
+int gives(int call, int number);
 
 /* A call of a list. */
 struct listed {
     int call;
-    uint32_t stations;     /* of an open */
-    struct bytes argument; /* the order block of a quote or an offer */
+    uint32_t stations;       /* of an open */
+    uint32_t format, due_in; /* of an order by format, and its rank */
+    uint8_t rank;
+    struct bytes argument; /* the order block of a quote or an offer; the station sheet of one by format */
     struct bytes reply;    /* the reply buffer before the call */
     uint32_t told_number;  /* what the simulator says of it */
     struct bytes told_reply;

@@ -4,11 +4,12 @@
  *                                carries the state by value (document 01: "The core carries its state by value");
  *   open                         libdispatcher.a against open.c;
  *   quote and offer              libdispatcher.a against counter.c, which works on the bytes of the image;
- *   advance                      libdispatcher.a against advance.c, which does so, too.
+ *   quote and offer by format    the same, for the same orders by their paper format; and the library beside itself with these orders as blocks;
+ *   advance                      libdispatcher.a against advance.c, which works on the bytes of the image, too.
  *
  * First all three must give the same bytes on the images that they are timed on, and the codec on random bytes besides. (compare.c has compared the calls on
  * lists of the second simulator before.) Then they are timed, as timing.h says. The tables go to the file TABLES as well. The last line has the worst ratio,
- * library time by the time of the faster C, and the status is 1 if that is above MOST.
+ * library time by the time of the faster C, and the status is 1 if that is above MOST, or if MOST is given and an order by format takes more than MOST_MORE.
  *
  * An open, an offer or an advance that is done changes the image, so all copies are put back after every 8 calls. Putting back is not in the time, and the time
  * of reading the clock around the 8 calls is taken off.
@@ -29,13 +30,14 @@ uint32_t probe_recode(uint8_t *image, size_t image_len);
 #define DEPTHS 64
 #define ROUNDS 60
 #define ROUND_CALLS 256
+#define MOST_MORE 60 /* nanoseconds that an order by format may take more than the same order as a block */
 
-/* What is timed: something done to an image, with an order block, which gives a number. */
-typedef uint32_t work(uint8_t *image, const uint8_t *order);
+/* What is timed: something done to an image, with an order, which gives a number. */
+typedef uint32_t work(uint8_t *image, const struct order_forms *order);
 
 static uint8_t reply[REPLY_SIZE];
 
-static uint32_t library_recode(uint8_t *image, const uint8_t *order)
+static uint32_t library_recode(uint8_t *image, const struct order_forms *order)
 {
     (void)order;
     return probe_recode(image, IMAGE_SIZE);
@@ -43,7 +45,7 @@ static uint32_t library_recode(uint8_t *image, const uint8_t *order)
 
 /* decode and encode are in another file, so each is a call, and the struct between them is really filled and read. */
 #define RECODE_BY(compiler) \
-    static uint32_t compiler##_recode(uint8_t *image, const uint8_t *order) \
+    static uint32_t compiler##_recode(uint8_t *image, const struct order_forms *order) \
     { \
         struct cabinet cabinet; \
         (void)order; \
@@ -54,34 +56,42 @@ static uint32_t library_recode(uint8_t *image, const uint8_t *order)
 RECODE_BY(gcc)
 RECODE_BY(clang)
 
-/* The four calls by the library or by the C of one compiler. */
-#define CALLS_BY(name, open_call, quote_call, offer_call, advance_call) \
-    static uint32_t name##_open(uint8_t *image, const uint8_t *order) \
+/* The calls by the library or by the C of one compiler. */
+#define CALLS_BY(name, open_call, counter, advance_call) \
+    static uint32_t name##_open(uint8_t *image, const struct order_forms *order) \
     { \
         (void)order; \
         return open_call(image, IMAGE_SIZE, STATIONS, reply, REPLY_SIZE); \
     } \
-    static uint32_t name##_quote(uint8_t *image, const uint8_t *order) \
+    static uint32_t name##_quote(uint8_t *image, const struct order_forms *order) \
     { \
-        return quote_call(image, IMAGE_SIZE, order, BLOCK_SIZE, reply, REPLY_SIZE); \
+        return counter##_quote(image, IMAGE_SIZE, order->block, BLOCK_SIZE, reply, REPLY_SIZE); \
     } \
-    static uint32_t name##_offer(uint8_t *image, const uint8_t *order) \
+    static uint32_t name##_offer(uint8_t *image, const struct order_forms *order) \
     { \
-        return offer_call(image, IMAGE_SIZE, order, BLOCK_SIZE, reply, REPLY_SIZE); \
+        return counter##_offer(image, IMAGE_SIZE, order->block, BLOCK_SIZE, reply, REPLY_SIZE); \
     } \
-    static uint32_t name##_advance(uint8_t *image, const uint8_t *order) \
+    static uint32_t name##_quote_format(uint8_t *image, const struct order_forms *order) \
+    { \
+        return counter##_quote_format(image, IMAGE_SIZE, order->format, order->due_in, order->rank, order->sheet, SHEET_SIZE, reply, REPLY_SIZE); \
+    } \
+    static uint32_t name##_offer_format(uint8_t *image, const struct order_forms *order) \
+    { \
+        return counter##_offer_format(image, IMAGE_SIZE, order->format, order->due_in, order->rank, order->sheet, SHEET_SIZE, reply, REPLY_SIZE); \
+    } \
+    static uint32_t name##_advance(uint8_t *image, const struct order_forms *order) \
     { \
         (void)order; \
         return advance_call(image, IMAGE_SIZE, reply, REPLY_SIZE); \
     }
-CALLS_BY(library, dispatcher_open, dispatcher_quote, dispatcher_offer, dispatcher_advance)
-CALLS_BY(gcc, gcc_plain_open, gcc_counter_quote, gcc_counter_offer, gcc_plain_advance)
-CALLS_BY(clang, clang_plain_open, clang_counter_quote, clang_counter_offer, clang_plain_advance)
+CALLS_BY(library, dispatcher_open, dispatcher, dispatcher_advance)
+CALLS_BY(gcc, gcc_plain_open, gcc_counter, gcc_plain_advance)
+CALLS_BY(clang, clang_plain_open, clang_counter, clang_plain_advance)
 
 /* The C library's memcpy, and not what a compiler puts in its place where it knows the length. */
 static void *(*volatile copy)(void *, const void *, size_t) = memcpy;
 
-static uint32_t copy_image(uint8_t *image, const uint8_t *order)
+static uint32_t copy_image(uint8_t *image, const struct order_forms *order)
 {
     static uint8_t to[IMAGE_SIZE];
     (void)order;
@@ -89,13 +99,14 @@ static uint32_t copy_image(uint8_t *image, const uint8_t *order)
     return 0;
 }
 
-/* What one call is timed on: images, order blocks, and the number that the call gives. The copies of an image are put back after `batch` calls. */
+/* What one call is timed on: images, orders, and the number that the call gives. The copies of an image are put back after `batch` calls. */
 struct table {
     const char *title;
     work *works[RUNNERS];
     int batch, count;
     struct {
-        uint8_t image[IMAGE_SIZE], order[BLOCK_SIZE];
+        uint8_t image[IMAGE_SIZE];
+        struct order_forms order;
         uint32_t number;
     } subjects[MOST_SUBJECTS];
     char labels[MOST_SUBJECTS][64];
@@ -115,14 +126,14 @@ static double timed(const void *of, int runner, int k)
             memcpy(copies[i], t->subjects[k].image, IMAGE_SIZE);
         double began = now();
         for (int i = 0; i < t->batch; i++)
-            call(copies[i % COPIES], t->subjects[k].order);
+            call(copies[i % COPIES], &t->subjects[k].order);
         took += now() - began - t->clock;
     }
     return took / ROUND_CALLS;
 }
 
 /* All three give this number, and leave the same image and the same reply. */
-static void compare(const struct table *t, const uint8_t *image, const uint8_t *order, uint32_t number, const char *label)
+static void compare(const struct table *t, const uint8_t *image, const struct order_forms *order, uint32_t number, const char *label)
 {
     static const char *const names[] = {"library", "C by gcc", "C by clang"};
     uint8_t images[3][IMAGE_SIZE], replies[3][REPLY_SIZE];
@@ -147,7 +158,7 @@ static double worst;
 static void time_table(struct table *t)
 {
     for (int k = 0; k < t->count; k++)
-        compare(t, t->subjects[k].image, t->subjects[k].order, t->subjects[k].number, t->labels[k]);
+        compare(t, t->subjects[k].image, &t->subjects[k].order, t->subjects[k].number, t->labels[k]);
     t->clock = reading();
     take_times(t->mean, timed, t, t->count, DEPTHS, ROUNDS);
     double ratio = print_times(t->title, "live orders, what happens", t->labels, t->mean, t->count);
@@ -196,23 +207,66 @@ static void codec(void)
 static void open_calls(void)
 {
     static struct table t = {"open, 8 stations", {library_open, gcc_open, clang_open, copy_image}, .batch = COPIES, .count = 1};
-    counter_image(t.subjects[0].image, t.subjects[0].order, 8);
+    counter_image(t.subjects[0].image, &t.subjects[0].order, 8);
     strcpy(t.labels[0], "any number, done (0)");
     time_table(&t);
+}
+
+static void counter_subjects(struct table *t)
+{
+    static const int live[] = {0, 8, 16, ORDERS - 1, ORDERS};
+    for (t->count = 0; t->count < 5; t->count++) {
+        int k = t->count, full = live[k] == ORDERS;
+        counter_image(t->subjects[k].image, &t->subjects[k].order, live[k]);
+        t->subjects[k].number = full ? 10 : 0;
+        sprintf(t->labels[k], "%d, %s", live[k], full ? "declined (10)" : "accepted (0)");
+    }
 }
 
 /* Quote or offer, by the works of a table that is otherwise empty. */
 static void counter(struct table *t)
 {
-    static const int live[] = {0, 8, 16, ORDERS - 1, ORDERS};
-    for (t->count = 0; t->count < 5; t->count++) {
-        int k = t->count, full = live[k] == ORDERS;
-        counter_image(t->subjects[k].image, t->subjects[k].order, live[k]);
-        t->subjects[k].number = full ? 10 : 0;
-        sprintf(t->labels[k], "%d, %s", live[k], full ? "declined (10)" : "accepted (0)");
-    }
+    counter_subjects(t);
     time_table(t);
     say_each(t, 0, 2, 3, 0, 16, ORDERS - 1);
+}
+
+/* The library alone: orders as blocks and by format, each in turn. Gives the most nanoseconds that the format takes more. */
+static double by_format(void)
+{
+    enum { QUOTE, QUOTE_FORMAT, OFFER, OFFER_FORMAT };
+    static struct table t = {"by format and as a block, library, 8 stations",
+                             {[QUOTE] = library_quote, [QUOTE_FORMAT] = library_quote_format, [OFFER] = library_offer, [OFFER_FORMAT] = library_offer_format},
+                             .batch = COPIES};
+    double most = 0;
+    counter_subjects(&t);
+    for (int k = 0; k < t.count; k++) {
+        uint8_t images[RUNNERS][IMAGE_SIZE], replies[RUNNERS][REPLY_SIZE];
+        for (int call = QUOTE; call <= OFFER_FORMAT; call++) {
+            memcpy(images[call], t.subjects[k].image, IMAGE_SIZE);
+            t.works[call](images[call], &t.subjects[k].order);
+            memcpy(replies[call], reply, REPLY_SIZE);
+        }
+        for (int call = QUOTE; call <= OFFER; call += OFFER - QUOTE)
+            if (memcmp(images[call], images[call + 1], IMAGE_SIZE) != 0 || memcmp(replies[call], replies[call + 1], REPLY_SIZE) != 0) {
+                printf("%s: by format the order gets another reply or image than as a block\n", t.labels[k]);
+                exit(1);
+            }
+    }
+    t.clock = reading();
+    take_times(t.mean, timed, &t, t.count, DEPTHS, ROUNDS);
+    say("\n### %s\n\n", t.title);
+    say("| %-30s | quote ns | by format ns | more ns | offer ns | by format ns | more ns |\n", "live orders, what happens");
+    say("|--------------------------------|---------:|-------------:|--------:|---------:|-------------:|--------:|\n");
+    for (int k = 0; k < t.count; k++) {
+        double quote = t.mean[k][QUOTE], quote_format = t.mean[k][QUOTE_FORMAT], offer = t.mean[k][OFFER], offer_format = t.mean[k][OFFER_FORMAT];
+        say("| %-30s | %8.1f | %12.1f | %7.1f | %8.1f | %12.1f | %7.1f |\n", t.labels[k], quote, quote_format, quote_format - quote, offer, offer_format,
+            offer_format - offer);
+        most = quote_format - quote > most ? quote_format - quote : most;
+        most = offer_format - offer > most ? offer_format - offer : most;
+    }
+    say("\nBy its format an order takes the library at most %.1f ns more than as a block; the goal is %d ns.\n", most, MOST_MORE);
+    return most;
 }
 
 static void advance(void)
@@ -251,6 +305,10 @@ int main(int argc, char **argv)
 {
     static struct table quotes = {"quote, 8 stations", {library_quote, gcc_quote, clang_quote, copy_image}, .batch = ROUND_CALLS};
     static struct table offers = {"offer, 8 stations", {library_offer, gcc_offer, clang_offer, copy_image}, .batch = COPIES};
+    static struct table quotes_by_format = {
+        "quote by format, 8 stations", {library_quote_format, gcc_quote_format, clang_quote_format, copy_image}, .batch = ROUND_CALLS};
+    static struct table offers_by_format = {
+        "offer by format, 8 stations", {library_offer_format, gcc_offer_format, clang_offer_format, copy_image}, .batch = COPIES};
     if (argc < 2) {
         printf("usage: main TABLES [MOST]\n");
         return 2;
@@ -262,9 +320,15 @@ int main(int argc, char **argv)
     open_calls();
     counter(&quotes);
     counter(&offers);
+    counter(&quotes_by_format);
+    counter(&offers_by_format);
+    double more = by_format();
     advance();
+    int too_much_more = argc > 2 && more > MOST_MORE;
+    if (too_much_more)
+        printf("an order by format takes %.1f ns more than as a block, above %d\n", more, MOST_MORE);
     if (worst > most)
         printf("above %.2f\n", most);
     printf("worst ratio %.2f\n", worst);
-    return worst > most;
+    return worst > most || too_much_more;
 }

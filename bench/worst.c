@@ -2,7 +2,7 @@
  *
  * First the slowest call is looked for, among those of extremes.h and those of the LISTs of the second simulator (lists.h): each is made a few times on copies
  * of the same buffers, and the best is its time, so that what else the machine does plays no part. For each call the slowest that is done, the slowest that is
- * declined by 4 and the slowest that is declined by another number are kept, with the image and the order block.
+ * declined by 4 and the slowest that is declined by another number are kept, with the image and the order.
  *
  * Then each of these is made so many times warm, one call after the other, and so many times cold: before each call all that it needs is taken out of the
  * caches (cold.h). Each call is timed by itself. A call in which the kernel gave the processor to somebody else is made again and not counted; interrupts and
@@ -27,8 +27,8 @@
 struct subject {
     char what[200];
     int call;
-    uint32_t stations, number; /* `number` is what the call gives */
-    uint8_t image[IMAGE_SIZE], order[BLOCK_SIZE], reply[REPLY_SIZE];
+    uint32_t stations, format, due_in, number; /* `number` is what the call gives */
+    uint8_t image[IMAGE_SIZE], order[BLOCK_SIZE], rank, sheet[SHEET_SIZE], reply[REPLY_SIZE];
     double took; /* the best of a few */
 };
 
@@ -43,6 +43,8 @@ static uint8_t image[IMAGE_SIZE], reply[REPLY_SIZE];
 typedef uint32_t open_call(uint8_t *, size_t, uint32_t, uint8_t *, size_t);
 typedef uint32_t quote_call(const uint8_t *, size_t, const uint8_t *, size_t, uint8_t *, size_t);
 typedef uint32_t offer_call(uint8_t *, size_t, const uint8_t *, size_t, uint8_t *, size_t);
+typedef uint32_t quote_format_call(const uint8_t *, size_t, uint32_t, uint32_t, uint8_t, const uint8_t *, size_t, uint8_t *, size_t);
+typedef uint32_t offer_format_call(uint8_t *, size_t, uint32_t, uint32_t, uint8_t, const uint8_t *, size_t, uint8_t *, size_t);
 typedef uint32_t advance_call(uint8_t *, size_t, uint8_t *, size_t);
 
 /* Where a call begins. */
@@ -50,6 +52,8 @@ static entry *const entries[CALLS] = {
     [OPEN] = (entry *)dispatcher_open,
     [QUOTE] = (entry *)dispatcher_quote,
     [OFFER] = (entry *)dispatcher_offer,
+    [QUOTE_FORMAT] = (entry *)dispatcher_quote_format,
+    [OFFER_FORMAT] = (entry *)dispatcher_offer_format,
     [ADVANCE] = (entry *)dispatcher_advance,
 };
 
@@ -59,6 +63,8 @@ static double time_call(struct subject *s, int cold)
     open_call *open = cold ? (open_call *)unguessed : dispatcher_open;
     quote_call *quote = cold ? (quote_call *)unguessed : dispatcher_quote;
     offer_call *offer = cold ? (offer_call *)unguessed : dispatcher_offer;
+    quote_format_call *quote_format = cold ? (quote_format_call *)unguessed : dispatcher_quote_format;
+    offer_format_call *offer_format = cold ? (offer_format_call *)unguessed : dispatcher_offer_format;
     advance_call *advance = cold ? (advance_call *)unguessed : dispatcher_advance;
     uint64_t before, after;
     memcpy(image, s->image, IMAGE_SIZE);
@@ -81,6 +87,16 @@ static double time_call(struct subject *s, int cold)
     case OFFER:
         before = counter_before();
         s->number = offer(image, IMAGE_SIZE, s->order, BLOCK_SIZE, reply, REPLY_SIZE);
+        after = counter_after();
+        break;
+    case QUOTE_FORMAT:
+        before = counter_before();
+        s->number = quote_format(image, IMAGE_SIZE, s->format, s->due_in, s->rank, s->sheet, SHEET_SIZE, reply, REPLY_SIZE);
+        after = counter_after();
+        break;
+    case OFFER_FORMAT:
+        before = counter_before();
+        s->number = offer_format(image, IMAGE_SIZE, s->format, s->due_in, s->rank, s->sheet, SHEET_SIZE, reply, REPLY_SIZE);
         after = counter_after();
         break;
     default:
@@ -117,6 +133,10 @@ static void try_extreme(const struct extreme *e)
     memcpy(s.what, e->what, sizeof e->what);
     memcpy(s.image, e->image, IMAGE_SIZE);
     memcpy(s.order, e->order, BLOCK_SIZE);
+    memcpy(s.sheet, e->sheet, SHEET_SIZE);
+    s.format = e->format;
+    s.due_in = e->due_in;
+    s.rank = e->rank;
     for (s.call = QUOTE; s.call <= ADVANCE; s.call++)
         try_call(&s);
 }
@@ -137,21 +157,34 @@ static void try_listed(const struct listed *l, struct bytes *listed_image)
 {
     static struct subject s;
     static struct bytes after;
+    const uint8_t *argument = l->argument.at;
+    size_t right_length = by_format(l->call) ? SHEET_SIZE : BLOCK_SIZE;
     uint32_t number;
-    if (listed_image->length == IMAGE_SIZE && l->reply.length == REPLY_SIZE && (l->call == OPEN || l->call == ADVANCE || l->argument.length == BLOCK_SIZE)) {
+    if (listed_image->length == IMAGE_SIZE && l->reply.length == REPLY_SIZE && (l->call == OPEN || l->call == ADVANCE || l->argument.length == right_length)) {
         s.call = l->call;
         s.stations = l->stations;
+        s.format = l->format;
+        s.due_in = l->due_in;
+        s.rank = l->rank;
         strcpy(s.what, "a list of the second simulator");
         memcpy(s.image, listed_image->at, IMAGE_SIZE);
-        memcpy(s.order, l->argument.at, BLOCK_SIZE);
+        memcpy(by_format(l->call) ? s.sheet : s.order, argument, right_length);
         memcpy(s.reply, l->reply.at, REPLY_SIZE);
         try_call(&s);
     }
     after = l->reply;
     switch (l->call) {
     case OPEN: number = dispatcher_open(listed_image->at, listed_image->length, l->stations, after.at, after.length); break;
-    case QUOTE: number = dispatcher_quote(listed_image->at, listed_image->length, l->argument.at, l->argument.length, after.at, after.length); break;
-    case OFFER: number = dispatcher_offer(listed_image->at, listed_image->length, l->argument.at, l->argument.length, after.at, after.length); break;
+    case QUOTE: number = dispatcher_quote(listed_image->at, listed_image->length, argument, l->argument.length, after.at, after.length); break;
+    case OFFER: number = dispatcher_offer(listed_image->at, listed_image->length, argument, l->argument.length, after.at, after.length); break;
+    case QUOTE_FORMAT:
+        number = dispatcher_quote_format(listed_image->at, listed_image->length, l->format, l->due_in, l->rank, argument, l->argument.length, after.at,
+                                         after.length);
+        break;
+    case OFFER_FORMAT:
+        number = dispatcher_offer_format(listed_image->at, listed_image->length, l->format, l->due_in, l->rank, argument, l->argument.length, after.at,
+                                         after.length);
+        break;
     default: number = dispatcher_advance(listed_image->at, listed_image->length, after.at, after.length);
     }
     if (!as_told(l, number, &after, listed_image))
@@ -202,7 +235,7 @@ static int too_slow(void)
 static void print_samples(const char *name, const char *end, const double took[], int samples)
 {
     double worst = took[samples - 1];
-    say("| %-7s | %-19s | %8.2f | %9.2f | %9.2f | %8.2f | %13.4f %% |\n", name, end, took[0] / 1e3, took[samples / 2] / 1e3,
+    say("| %-12s | %-19s | %8.2f | %9.2f | %9.2f | %8.2f | %13.4f %% |\n", name, end, took[0] / 1e3, took[samples / 2] / 1e3,
         took[samples - 1 - samples / 1000] / 1e3, worst / 1e3, 100 * worst / TICK);
     longest = worst > longest ? worst : longest;
     least_worst = took[0] > least_worst ? took[0] : least_worst;
@@ -242,8 +275,8 @@ int main(int argc, char **argv)
         return 1;
     for (int cold = 0; cold <= 1; cold++) {
         say("\n### worst times, %s\n\n", cold ? "cold" : "warm");
-        say("| %-7s | %-19s | least µs | median µs | 99.9 %% µs | worst µs | worst of a tick |\n", "call", "the slowest that is");
-        say("|---------|---------------------|---------:|----------:|----------:|---------:|----------------:|\n");
+        say("| %-12s | %-19s | least µs | median µs | 99.9 %% µs | worst µs | worst of a tick |\n", "call", "the slowest that is");
+        say("|--------------|---------------------|---------:|----------:|----------:|---------:|----------------:|\n");
         for (int call = OPEN; call < CALLS; call++)
             for (int end = 0; end < ENDS; end++)
                 if (slowest[call][end].what[0] != 0) {

@@ -4,8 +4,11 @@
 
 #include <stdint.h>
 
-/* Makes a call with six arguments, the stack pointer at `top` before it. The registers that a call leaves alone hold where to go back to. */
-uint32_t call_on_stack(uint8_t *top, const void *call, const uint64_t arguments[6]);
+/* Makes a call with as many of nine arguments as it has, the stack pointer at `top` before it. The last three are passed on the stack, in ABOVE bytes from the
+ * stack pointer up. The registers that a call leaves alone hold where to go back to. */
+#define ARGUMENTS 9
+#define ABOVE 32
+uint32_t call_on_stack(uint8_t *top, const void *call, const uint64_t arguments[ARGUMENTS]);
 __asm__(".text\n"
         ".type call_on_stack, @function\n"
         "call_on_stack:\n"
@@ -20,6 +23,12 @@ __asm__(".text\n"
         "    movq 24(%r10), %rcx\n"
         "    movq 32(%r10), %r8\n"
         "    movq 40(%r10), %r9\n"
+        "    movq 48(%r10), %r11\n"
+        "    movq %r11, (%rsp)\n"
+        "    movq 56(%r10), %r11\n"
+        "    movq %r11, 8(%rsp)\n"
+        "    movq 64(%r10), %r11\n"
+        "    movq %r11, 16(%rsp)\n"
         "    callq *%rax\n"
         "    movq %rbp, %rsp\n"
         "    popq %rbp\n"

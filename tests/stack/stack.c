@@ -17,20 +17,20 @@
 #include <stdlib.h>
 #include <sys/mman.h>
 
-#define NUMBERS 15
 #define STACK 65536 /* bytes; below them is a page that may not be touched */
 #define PAGE 4096
 #define STRIP 256 /* bytes that are looked at together */
 
 static uint8_t *stack; /* its lowest byte */
 
-/* One call: buffers and lengths. The order block is that of a quote or an offer. */
+/* One call: buffers and lengths. The order of a quote or an offer is its block or, by format, its sheet. */
 struct arguments {
     int call;
     struct bytes image, reply;
     const uint8_t *order;
     size_t order_length;
-    uint32_t stations;
+    uint32_t stations, format, due_in;
+    uint8_t rank;
 };
 
 static unsigned long made[CALLS], seen[CALLS][NUMBERS];
@@ -67,7 +67,7 @@ static void measure_shapes(void)
     } shapes[] = {{"takes_24", takes_24, 32},         {"leaf_below", leaf_below, 16},   {"leaf_below_to_the_end", leaf_below_to_the_end, 136},
                   {"pushes_and_below", pushes_and_below, 64}, {"points_below", points_below, 72}, {"frame_below", frame_below, 32},
                   {"calls_leaf", calls_leaf, 32}};
-    static const uint64_t zeros[6];
+    static const uint64_t zeros[ARGUMENTS];
     for (size_t k = 0; k < sizeof shapes / sizeof *shapes; k++) {
         call_on_stack(painted_stack(0xa5), (const void *)(uintptr_t)shapes[k].shape, zeros);
         size_t used = used_of_stack(0xa5);
@@ -83,14 +83,18 @@ static void measure_shapes(void)
 static size_t used_by(struct arguments *a, uint8_t paint, uint32_t *number)
 {
     uint64_t image = (uintptr_t)a->image.at, reply = (uintptr_t)a->reply.at, order = (uintptr_t)a->order;
-    const uint64_t open_arguments[6] = {image, a->image.length, a->stations, reply, a->reply.length};
-    const uint64_t order_arguments[6] = {image, a->image.length, order, a->order_length, reply, a->reply.length};
-    const uint64_t advance_arguments[6] = {image, a->image.length, reply, a->reply.length};
+    const uint64_t open_arguments[ARGUMENTS] = {image, a->image.length, a->stations, reply, a->reply.length};
+    const uint64_t order_arguments[ARGUMENTS] = {image, a->image.length, order, a->order_length, reply, a->reply.length};
+    const uint64_t format_arguments[ARGUMENTS] = {image, a->image.length,  a->format, a->due_in,      a->rank,
+                                                  order, a->order_length, reply,     a->reply.length};
+    const uint64_t advance_arguments[ARGUMENTS] = {image, a->image.length, reply, a->reply.length};
     uint8_t *top = painted_stack(paint);
     switch (a->call) {
     case OPEN: *number = call_on_stack(top, (const void *)(uintptr_t)dispatcher_open, open_arguments); break;
     case QUOTE: *number = call_on_stack(top, (const void *)(uintptr_t)dispatcher_quote, order_arguments); break;
     case OFFER: *number = call_on_stack(top, (const void *)(uintptr_t)dispatcher_offer, order_arguments); break;
+    case QUOTE_FORMAT: *number = call_on_stack(top, (const void *)(uintptr_t)dispatcher_quote_format, format_arguments); break;
+    case OFFER_FORMAT: *number = call_on_stack(top, (const void *)(uintptr_t)dispatcher_offer_format, format_arguments); break;
     default: *number = call_on_stack(top, (const void *)(uintptr_t)dispatcher_advance, advance_arguments);
     }
     return used_of_stack(paint);
@@ -107,6 +111,9 @@ static uint32_t measure(struct arguments *a, const char *what)
     again.order = a->order;
     again.order_length = a->order_length;
     again.stations = a->stations;
+    again.format = a->format;
+    again.due_in = a->due_in;
+    again.rank = a->rank;
     size_t used = used_by(a, 0xa5, &number), used_again = used_by(&again, 0x5a, &second);
     used = used_again > used ? used_again : used;
     if (number != second || number >= NUMBERS) {
@@ -137,22 +144,30 @@ static uint32_t one(int call, const struct extreme *e, size_t image_length, size
     arguments.call = call;
     set(&arguments.image, e->image, image_length);
     set(&arguments.reply, reply, reply_length);
-    arguments.order = e->order;
+    arguments.order = by_format(call) ? e->sheet : e->order;
     arguments.order_length = order_length;
     arguments.stations = stations;
+    arguments.format = e->format;
+    arguments.due_in = e->due_in;
+    arguments.rank = e->rank;
     return measure(&arguments, e->what);
+}
+
+static uint32_t right_lengths(int call, const struct extreme *e)
+{
+    return one(call, e, IMAGE_SIZE, by_format(call) ? SHEET_SIZE : BLOCK_SIZE, REPLY_SIZE, 0);
 }
 
 static void damaged_image(const struct extreme *e)
 {
     for (int call = QUOTE; call <= ADVANCE; call++)
-        one(call, e, IMAGE_SIZE, BLOCK_SIZE, REPLY_SIZE, 0);
+        right_lengths(call, e);
 }
 
 static void sound_image(const struct extreme *e)
 {
     for (int call = QUOTE; call <= ADVANCE; call++) {
-        uint32_t number = one(call, e, IMAGE_SIZE, BLOCK_SIZE, REPLY_SIZE, 0);
+        uint32_t number = right_lengths(call, e);
         if (number >= 1 && number <= 4) {
             printf("%s: %s was declined by %lu\n", e->what, call_names[call], (unsigned long)number);
             exit(1);
@@ -164,12 +179,12 @@ static void sound_image(const struct extreme *e)
 static void lengths_and_stations(void)
 {
     static const size_t images[] = {0, IMAGE_SIZE - 1, IMAGE_SIZE, IMAGE_SIZE + 1}, orders[] = {0, BLOCK_SIZE - 1, BLOCK_SIZE, BLOCK_SIZE + 1},
-                        replies[] = {0, REPLY_SIZE - 1, REPLY_SIZE, REPLY_SIZE + 1};
-    static struct extreme e = {.what = "a fresh image, lengths one off or 0",
+                        sheets[] = {0, SHEET_SIZE - 1, SHEET_SIZE, SHEET_SIZE + 1}, replies[] = {0, REPLY_SIZE - 1, REPLY_SIZE, REPLY_SIZE + 1};
+    static struct extreme e = {.what = "a fresh image, lengths one off or 0", .format = 1,
                                .image = {MARK, VERSION & 255, VERSION >> 8, [STATION_COUNT_AT] = 8, [NEXT_AT] = 1}};
     for (int call = OPEN; call < CALLS; call++)
         for (int k = 0; k < 64; k++)
-            one(call, &e, images[k % 4], orders[k / 4 % 4], replies[k / 16], 8);
+            one(call, &e, images[k % 4], (by_format(call) ? sheets : orders)[k / 4 % 4], replies[k / 16], 8);
     strcpy(e.what, "open, 0 to 256 stations");
     for (uint32_t stations = 0; stations <= 256; stations++)
         one(OPEN, &e, IMAGE_SIZE, 0, REPLY_SIZE, stations);
@@ -183,26 +198,19 @@ static void listed_call(const struct listed *l, struct bytes *image)
     arguments.order = l->argument.at;
     arguments.order_length = l->argument.length;
     arguments.stations = l->stations;
+    arguments.format = l->format;
+    arguments.due_in = l->due_in;
+    arguments.rank = l->rank;
     uint32_t number = measure(&arguments, "a list of the second simulator");
     if (!as_told(l, number, &arguments.reply, &arguments.image))
         list_fail("the simulator gives another number, reply or image");
     *image = arguments.image;
 }
 
-/* The numbers that a call can give. */
-static int gives(int call, int number)
-{
-    switch (call) {
-    case OPEN: return number <= 2 || number == 14;
-    case ADVANCE: return number <= 4 || number == 13;
-    default: return number <= 12;
-    }
-}
-
 int main(int argc, char **argv)
 {
-    uint8_t *whole = mmap(NULL, PAGE + STACK, PROT_NONE, MAP_PRIVATE | MAP_ANONYMOUS, -1, 0);
-    if (whole == MAP_FAILED || mprotect(whole + PAGE, STACK, PROT_READ | PROT_WRITE) != 0) {
+    uint8_t *whole = mmap(NULL, PAGE + STACK + ABOVE, PROT_NONE, MAP_PRIVATE | MAP_ANONYMOUS, -1, 0);
+    if (whole == MAP_FAILED || mprotect(whole + PAGE, STACK + ABOVE, PROT_READ | PROT_WRITE) != 0) {
         printf("no memory for a stack\n");
         return 1;
     }
@@ -212,7 +220,7 @@ int main(int argc, char **argv)
     lengths_and_stations();
     for (int k = 1; k < argc; k++)
         listed += each_call(argv[k], listed_call);
-    printf("quote, offer and advance on %lu sound and %lu damaged images; %d lists with %lu images\n", sound, damaged, argc - 1, listed);
+    printf("all calls but open on %lu sound and %lu damaged images; %d lists with %lu images\n", sound, damaged, argc - 1, listed);
     for (int call = OPEN; call < CALLS; call++) {
         for (int number = 0; number < NUMBERS; number++)
             if (gives(call, number) != (seen[call][number] > 0)) {
