@@ -134,7 +134,7 @@ static uint32_t consider(const uint8_t *image, size_t image_len, const uint8_t *
 }
 
 /* Writes the newcomer into an image that has been considered and takes it. */
-static void accept(uint8_t *image, const uint8_t *order, const struct newcomer *c)
+static inline void accept(uint8_t *image, const uint8_t *order, const struct newcomer *c)
 {
     uint32_t live = image[LIVE_COUNT_AT];
     uint8_t *record = image + RECORDS_AT;
@@ -168,31 +168,25 @@ static uint32_t answer(uint8_t *reply, uint32_t number, const struct newcomer *c
     return number;
 }
 
-static uint32_t quote(const uint8_t *image, size_t image_len, const uint8_t *order, uint32_t unread, uint8_t *reply)
+uint32_t counter_quote(const uint8_t *image, size_t image_len, const uint8_t *order, size_t order_len, uint8_t *reply, size_t reply_len)
 {
     struct newcomer c;
-    uint32_t number = consider(image, image_len, order, unread, &c);
+    if (reply_len != REPLY_SIZE)
+        return 1;
+    uint32_t number = consider(image, image_len, order, order_len == BLOCK_SIZE ? 0 : 5, &c);
     c.ticket = 0;
     return answer(reply, number, &c);
 }
 
-static uint32_t offer(uint8_t *image, size_t image_len, const uint8_t *order, uint32_t unread, uint8_t *reply)
+uint32_t counter_offer(uint8_t *image, size_t image_len, const uint8_t *order, size_t order_len, uint8_t *reply, size_t reply_len)
 {
     struct newcomer c;
-    uint32_t number = consider(image, image_len, order, unread, &c);
+    if (reply_len != REPLY_SIZE)
+        return 1;
+    uint32_t number = consider(image, image_len, order, order_len == BLOCK_SIZE ? 0 : 5, &c);
     if (number == 0)
         accept(image, order, &c);
     return answer(reply, number, &c);
-}
-
-uint32_t counter_quote(const uint8_t *image, size_t image_len, const uint8_t *order, size_t order_len, uint8_t *reply, size_t reply_len)
-{
-    return reply_len != REPLY_SIZE ? 1 : quote(image, image_len, order, order_len == BLOCK_SIZE ? 0 : 5, reply);
-}
-
-uint32_t counter_offer(uint8_t *image, size_t image_len, const uint8_t *order, size_t order_len, uint8_t *reply, size_t reply_len)
-{
-    return reply_len != REPLY_SIZE ? 1 : offer(image, image_len, order, order_len == BLOCK_SIZE ? 0 : 5, reply);
 }
 
 /* The block of an order by format, or the number of 5, 19 and 20 for which there is none. The image has not been looked at yet, so n may be any byte. */
@@ -221,18 +215,25 @@ uint32_t counter_quote_format(const uint8_t *image, size_t image_len, uint32_t f
                               uint8_t *reply, size_t reply_len)
 {
     uint8_t block[BLOCK_SIZE];
+    struct newcomer c;
     if (reply_len != REPLY_SIZE)
         return 1;
     uint32_t unread = image_len == IMAGE_SIZE ? write_block(block, image[STATION_COUNT_AT], format, due_in, rank, sheet, sheet_len) : 2;
-    return quote(image, image_len, block, unread, reply);
+    uint32_t number = consider(image, image_len, block, unread, &c);
+    c.ticket = 0;
+    return answer(reply, number, &c);
 }
 
 uint32_t counter_offer_format(uint8_t *image, size_t image_len, uint32_t format, uint32_t due_in, uint8_t rank, const uint8_t *sheet, size_t sheet_len,
                               uint8_t *reply, size_t reply_len)
 {
     uint8_t block[BLOCK_SIZE];
+    struct newcomer c;
     if (reply_len != REPLY_SIZE)
         return 1;
     uint32_t unread = image_len == IMAGE_SIZE ? write_block(block, image[STATION_COUNT_AT], format, due_in, rank, sheet, sheet_len) : 2;
-    return offer(image, image_len, block, unread, reply);
+    uint32_t number = consider(image, image_len, block, unread, &c);
+    if (number == 0)
+        accept(image, block, &c);
+    return answer(reply, number, &c);
 }
