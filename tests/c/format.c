@@ -7,7 +7,7 @@
  * not hold ends the program with what was called. */
 #include "image.h"
 
-/* The order that the next calls get. Of the sheet, stations that the cabinet does not have hold what is wrong anywhere else: speed 0, and too many ticks. */
+/* The order that the next calls get. For stations that the cabinet does not have the sheet holds what is wrong for any other: speed 0, and too many ticks. */
 static uint32_t format, due_in;
 static uint8_t rank, sheet[ROOM / 2];
 static size_t sheet_length;
@@ -88,7 +88,7 @@ static void one_call(int call, const char *name, int place, uint32_t number, uin
     expect_bytes(&image_lent, call == OFFER && number == 0 ? after : image, "image");
     expect_bytes(&sheet_lent, sheet, "sheet");
     seen[call][number]++;
-    /* A block of the right length, too, has the questions up to 5 behind it. */
+    /* A block gets these numbers for the same reasons. The others are about lengths, the image, the format or the sheet. */
     if (is_block && (number == 0 || (number >= 6 && number <= 12)))
         expect_block(call, number, expected);
 }
@@ -144,8 +144,8 @@ static void ten_formats(void)
     static const struct {
         uint32_t format;
         uint16_t side;
-    } formats[] = {{DISPATCHER_FORMAT_A1, 841},  {DISPATCHER_FORMAT_A2, 594}, {DISPATCHER_FORMAT_A3, 420}, {DISPATCHER_FORMAT_A4, 297},
-                   {DISPATCHER_FORMAT_A5, 210},  {DISPATCHER_FORMAT_B1, 1000}, {DISPATCHER_FORMAT_B2, 707}, {DISPATCHER_FORMAT_B3, 500},
+    } formats[] = {{DISPATCHER_FORMAT_A1, 841}, {DISPATCHER_FORMAT_A2, 594},  {DISPATCHER_FORMAT_A3, 420}, {DISPATCHER_FORMAT_A4, 297},
+                   {DISPATCHER_FORMAT_A5, 210}, {DISPATCHER_FORMAT_B1, 1000}, {DISPATCHER_FORMAT_B2, 707}, {DISPATCHER_FORMAT_B3, 500},
                    {DISPATCHER_FORMAT_B4, 353}, {DISPATCHER_FORMAT_B5, 250}};
     CHECK(sizeof formats / sizeof *formats == MAX_FORMAT);
     for (uint32_t k = 0; k < MAX_FORMAT; k++) {
@@ -199,7 +199,7 @@ static void rounded_up(void)
         costs_so_much("rounded up", cases[k].format, cases[k].fixed, cases[k].speed, cases[k].cost, (int)(k % PLACES));
 }
 
-/* Costs above 6,000, those among them that two bytes would hold as another: 65,536 as 0, 65,537 as 1 and 66,535 as 999. */
+/* Costs above 6,000, and among them some that two bytes would hold as another cost: 65,536 as 0, 65,537 as 1 and 66,535 as 999. */
 static void costs_too_large(void)
 {
     static const struct {

@@ -67,7 +67,7 @@ enum { BEFORE, CALLING, STORING, FINISHED };
 /* How the child makes the call. */
 enum way { LENT, SEALED, ADVISED, ON_STACK, ON_STACK_NOT_ALIGNED };
 
-/* The call that is stepped through: the image before it, and its other arguments. */
+/* The call that is stepped through: the image before it, and its other arguments. The order is a block, and the same order by its format. */
 static struct {
     int call;
     uint8_t image[IMAGE_SIZE], order[BLOCK_SIZE], rank, sheet[SHEET_SIZE];
