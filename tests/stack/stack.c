@@ -166,12 +166,17 @@ static void damaged_image(const struct extreme *e)
 
 static void sound_image(const struct extreme *e)
 {
+    uint32_t numbers[CALLS];
     for (int call = QUOTE; call <= ADVANCE; call++) {
-        uint32_t number = right_lengths(call, e);
-        if (number >= 1 && number <= 4) {
-            printf("%s: %s was declined by %lu\n", e->what, call_names[call], (unsigned long)number);
+        numbers[call] = right_lengths(call, e);
+        if (numbers[call] >= 1 && numbers[call] <= 4) {
+            printf("%s: %s was declined by %lu\n", e->what, call_names[call], (unsigned long)numbers[call]);
             exit(1);
         }
+    }
+    if (numbers[QUOTE_FORMAT] != numbers[QUOTE] || numbers[OFFER_FORMAT] != numbers[OFFER]) {
+        printf("%s: by format the order gets another number than as a block\n", e->what);
+        exit(1);
     }
 }
 
