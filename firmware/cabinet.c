@@ -2,7 +2,7 @@
  * to standard output (telling.h), the image is kept in a file (image_store.h), and a tick passes every 0.1 s. README.md says how to run it and what a power
  * cut does.
  *
- *     cabinet [--image FILE] [--stations N] [--tick MILLISECONDS]
+ *     cabinet [--image FILE] [--stations N] [--sheet FILE] [--tick MILLISECONDS]
  *
  * One rule holds everywhere: a call changes the image in memory, the image is stored, and only then is anybody told. */
 #define _POSIX_C_SOURCE 200809L
@@ -10,10 +10,13 @@
 #include "dispatcher.h"
 #include "image_store.h"
 #include "image_view.h"
+#include "read_file.h"
 #include "stop.h"
 #include "telling.h"
+#include "text.h"
 
 #include <errno.h>
+#include <fcntl.h>
 #include <poll.h>
 #include <stdlib.h>
 #include <string.h>
@@ -22,17 +25,33 @@
 
 struct cabinet {
     const char *path;
-    long long stations; /* of the command line; -1 if it has none */
-    long long tick;     /* nanoseconds; 0: ticks pass in `wait` alone, and there at once */
+    const char *sheet_path; /* NULL: there is no sheet, and no order by format is taken */
+    long long stations;     /* of the command line; -1 if it has none */
+    long long tick;         /* nanoseconds; 0: ticks pass in `wait` alone, and there at once */
     struct image_store store;
     uint8_t image[DISPATCHER_IMAGE_SIZE];
     uint8_t reply[DISPATCHER_REPLY_SIZE];
+    uint8_t sheet[DISPATCHER_SHEET_SIZE];
 };
 
 static void store(const struct cabinet *cabinet)
 {
     if (image_store_save(&cabinet->store, cabinet->image, sizeof cabinet->image) < 0)
         stop(STORE_FAILED, "cannot store the image %s: %s. What was not stored was not told.", cabinet->path, strerror(errno));
+}
+
+/* Before the image is looked at, so that with a wrong sheet no cabinet is opened. */
+static void load_sheet(struct cabinet *cabinet)
+{
+    uint8_t bytes[DISPATCHER_SHEET_SIZE + 1]; /* one more, so that a longer file is seen to be longer */
+    size_t length;
+    if (read_file(AT_FDCWD, cabinet->sheet_path, bytes, sizeof bytes, &length) < 0)
+        stop(SHEET_REFUSED, "cannot read the station sheet %s: %s. Without --sheet the cabinet takes every order but those by format.", cabinet->sheet_path,
+             strerror(errno));
+    if (length != DISPATCHER_SHEET_SIZE)
+        stop(SHEET_REFUSED, "the station sheet %s has %s%zu bytes, and not " TEXT(DISPATCHER_SHEET_SIZE) ": eight fixed ticks, then eight speeds, each of 2 "
+             "bytes.", cabinet->sheet_path, length > DISPATCHER_SHEET_SIZE ? "at least " : "", length);
+    memcpy(cabinet->sheet, bytes, sizeof cabinet->sheet);
 }
 
 /* Ends the program if the number says that the image is none. The file is left as it is: it may still tell what happened, and an image made anew in its
@@ -88,19 +107,32 @@ static void advance(struct cabinet *cabinet)
     tell_advance(before, cabinet->image, cabinet->reply);
 }
 
+/* The call that a quote or an offer is for. Without a sheet an order by format gets 5. */
+static uint32_t call(struct cabinet *cabinet, const struct request *request)
+{
+    uint8_t *image = cabinet->image, *reply = cabinet->reply;
+    const size_t image_len = sizeof cabinet->image, reply_len = sizeof cabinet->reply;
+    const size_t sheet_len = cabinet->sheet_path == NULL ? 0 : sizeof cabinet->sheet;
+    if (request->kind == OFFER && request->format != 0)
+        return dispatcher_offer_format(image, image_len, request->format, request->ticks, request->rank, cabinet->sheet, sheet_len, reply, reply_len);
+    if (request->kind == OFFER)
+        return dispatcher_offer(image, image_len, request->order, sizeof request->order, reply, reply_len);
+    if (request->format != 0)
+        return dispatcher_quote_format(image, image_len, request->format, request->ticks, request->rank, cabinet->sheet, sheet_len, reply, reply_len);
+    return dispatcher_quote(image, image_len, request->order, sizeof request->order, reply, reply_len);
+}
+
 static void answer(struct cabinet *cabinet, const struct request *request)
 {
-    uint64_t due = (uint64_t)view_image(cabinet->image).clock + request->ticks;
-    uint32_t number;
-    if (request->kind == OFFER) {
-        number = dispatcher_offer(cabinet->image, sizeof cabinet->image, request->order, sizeof request->order, cabinet->reply, sizeof cabinet->reply);
-        if (number == DISPATCHER_DONE)
-            store(cabinet);
-    } else {
-        number = dispatcher_quote(cabinet->image, sizeof cabinet->image, request->order, sizeof request->order, cabinet->reply, sizeof cabinet->reply);
-    }
+    uint64_t due = (uint64_t)view_image(cabinet->image).clock + (request->ticks == 0 ? DISPATCHER_DEFAULT_DUE_IN : request->ticks);
+    uint32_t number = call(cabinet, request);
+    if (number == DISPATCHER_DONE && request->kind == OFFER)
+        store(cabinet);
     refuse_damage(cabinet, number);
-    tell_answer(cabinet->reply, due);
+    if (number == DISPATCHER_BAD_ORDER_LENGTH)
+        tell_no_sheet(); /* order blocks have their length here */
+    else
+        tell_answer(cabinet->reply, due);
 }
 
 /* One request of the counter, if there is one. After `wait` the next is to be taken when `*waits` ticks have passed. */
@@ -174,11 +206,15 @@ int main(int count, char **words)
             cabinet.path = value;
         else if (strcmp(words[k], "--stations") == 0)
             cabinet.stations = (long long)decimal(value, UINT32_MAX);
+        else if (strcmp(words[k], "--sheet") == 0 && value[0] != '\0')
+            cabinet.sheet_path = value;
         else if (strcmp(words[k], "--tick") == 0)
             cabinet.tick = (long long)decimal(value, 60000) * 1000000;
         else
-            stop(BAD_USAGE, "usage: cabinet [--image FILE] [--stations N] [--tick MILLISECONDS]");
+            stop(BAD_USAGE, "usage: cabinet [--image FILE] [--stations N] [--sheet FILE] [--tick MILLISECONDS]");
     }
+    if (cabinet.sheet_path != NULL)
+        load_sheet(&cabinet);
     if (image_store_open(&cabinet.store, cabinet.path) < 0)
         stop(STORE_FAILED, "no image can be kept in %s: %s.", cabinet.path, strerror(errno));
     start(&cabinet);

@@ -39,21 +39,43 @@ static int number(const char **at, uint32_t most, uint32_t *value)
     return *at > first && sum <= most;
 }
 
+/* Goes over a paper format and gives its number. */
+static int paper_format(const char **at, uint32_t *format)
+{
+    static const char *const names[] = {
+        [DISPATCHER_FORMAT_A1] = "A1", [DISPATCHER_FORMAT_A2] = "A2", [DISPATCHER_FORMAT_A3] = "A3", [DISPATCHER_FORMAT_A4] = "A4",
+        [DISPATCHER_FORMAT_A5] = "A5", [DISPATCHER_FORMAT_B1] = "B1", [DISPATCHER_FORMAT_B2] = "B2", [DISPATCHER_FORMAT_B3] = "B3",
+        [DISPATCHER_FORMAT_B4] = "B4", [DISPATCHER_FORMAT_B5] = "B5",
+    };
+    for (*format = 1; *format <= DISPATCHER_MAX_FORMAT; ++*format)
+        if (word(at, names[*format]))
+            return 1;
+    return 0;
+}
+
 /* NULL, or what is wrong. */
 static const char *read_order(struct request *request, const char *at)
 {
+    static const char wrong_pair[] =
+        "a station is RANK:COST, a rank of at most 255 and a cost of at most 65535; or one RANK:FORMAT is for all, A1 to A5 or B1 to B5";
+    request->format = 0;
     memset(request->order, 0, sizeof request->order);
     if (!number(&at, UINT32_MAX, &request->ticks))
         return "a due-in is a decimal of at most 4294967295";
     put4(request->order + DISPATCHER_ORDER_DUE_IN_AT, request->ticks);
-    if (request->ticks == 0)
-        request->ticks = DISPATCHER_DEFAULT_DUE_IN;
     for (unsigned j = 0; *at != '\0'; j++) {
-        uint32_t rank, cost;
+        uint32_t rank, cost, format;
         if (j == DISPATCHER_MAX_STATIONS)
             return "an order has at most " TEXT(DISPATCHER_MAX_STATIONS) " stations";
-        if (!word(&at, " ") || !number(&at, UINT8_MAX, &rank) || !word(&at, ":") || !number(&at, UINT16_MAX, &cost))
-            return "a station is RANK:COST, a rank of at most 255 and a cost of at most 65535";
+        if (!word(&at, " ") || !number(&at, UINT8_MAX, &rank) || !word(&at, ":"))
+            return wrong_pair;
+        if (j == 0 && paper_format(&at, &format)) {
+            request->format = format;
+            request->rank = (uint8_t)rank;
+            return *at == '\0' ? NULL : wrong_pair;
+        }
+        if (!number(&at, UINT16_MAX, &cost))
+            return wrong_pair;
         request->order[DISPATCHER_ORDER_RANKS_AT + j] = (uint8_t)rank;
         put2(request->order + DISPATCHER_ORDER_COSTS_AT + 2 * j, cost);
     }

@@ -1,6 +1,7 @@
 /* image_store.c: see image_store.h. */
 #define _POSIX_C_SOURCE 200809L
 #include "image_store.h"
+#include "read_file.h"
 
 #include <errno.h>
 #include <fcntl.h>
@@ -39,20 +40,7 @@ static int failed(int file)
 
 int image_store_load(const struct image_store *store, uint8_t *bytes, size_t room, size_t *length)
 {
-    int file = openat(store->directory, store->name, O_RDONLY | O_CLOEXEC);
-    if (file < 0)
-        return -1;
-    *length = 0;
-    while (*length < room) {
-        ssize_t got = read(file, bytes + *length, room - *length);
-        if (got == 0)
-            break;
-        if (got > 0)
-            *length += (size_t)got;
-        else if (errno != EINTR)
-            return failed(file);
-    }
-    return close(file);
+    return read_file(store->directory, store->name, bytes, room, length);
 }
 
 static int write_all(int file, const uint8_t *bytes, size_t length)

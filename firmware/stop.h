@@ -8,7 +8,8 @@ enum ending {
     IMAGE_REFUSED = 2, /* there is no image, or questions 2 to 4 of document 01 refuse it */
     STORE_FAILED = 3,  /* the image cannot be read or stored */
     LINES_FAILED = 4,  /* standard input or output */
-    CLOCK_ENDED = 5    /* number 13: the clock stands at its last tick */
+    CLOCK_ENDED = 5,   /* number 13: the clock stands at its last tick */
+    SHEET_REFUSED = 6  /* the station sheet cannot be read, or is of another length */
 };
 
 /* Says why on standard error, in one line, and ends the program. */

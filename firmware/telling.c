@@ -22,7 +22,7 @@ const char *in_words(uint32_t number)
         [DISPATCHER_BAD_IMAGE_LENGTH] = "the image is not " TEXT(DISPATCHER_IMAGE_SIZE) " bytes long",
         [DISPATCHER_BAD_MARK] = "these bytes are no image, or one of another version",
         [DISPATCHER_BAD_IMAGE] = "the image contradicts itself: it has been damaged",
-        [DISPATCHER_BAD_ORDER_LENGTH] = "the order block is not " TEXT(DISPATCHER_ORDER_SIZE) " bytes long",
+        [DISPATCHER_BAD_ORDER_LENGTH] = "the order block is not " TEXT(DISPATCHER_ORDER_SIZE) " bytes long, or the sheet not " TEXT(DISPATCHER_SHEET_SIZE),
         [DISPATCHER_BAD_ORDER] = "a cost is not 1 to " TEXT(DISPATCHER_MAX_COST) ", or a station that is not there has a cost or rank",
         [DISPATCHER_BAD_DUE_IN] = "the due-in is above " TEXT(DISPATCHER_MAX_DUE_IN),
         [DISPATCHER_DUE_TOO_FAR] = "the order would be due after the clock's last tick",
@@ -32,8 +32,11 @@ const char *in_words(uint32_t number)
         [DISPATCHER_DELAYS_OTHERS] = "the order would make a live order late",
         [DISPATCHER_CLOCK_ENDED] = "the clock stands at its last tick",
         [DISPATCHER_BAD_STATIONS] = "the number of stations is not 1 to " TEXT(DISPATCHER_MAX_STATIONS),
+        [DISPATCHER_BAD_FORMAT] = "the format is not 1 to " TEXT(DISPATCHER_MAX_FORMAT),
+        [DISPATCHER_BAD_SPEED] = "the station sheet has a speed of 0 at a station that is there",
     };
-    return number < sizeof words / sizeof *words ? words[number] : "document 01 has no such number";
+    /* The numbers between are those of plan. */
+    return number < sizeof words / sizeof *words && words[number] != NULL ? words[number] : "no call gives this number";
 }
 
 /* The line goes out at once and as it is: nothing waits in a buffer. */
@@ -97,6 +100,11 @@ void tell_advance(const uint8_t *before, const uint8_t *after, const uint8_t *re
     }
     if (out != 0)
         tell("tick %" PRIu32 " ticket %" PRIu32 " is out\n", view_image(after).clock, out);
+}
+
+void tell_no_sheet(void)
+{
+    tell("declined %d: an order by format needs a station sheet, and the cabinet was started without --sheet\n", DISPATCHER_BAD_ORDER_LENGTH);
 }
 
 void tell_not_understood(const char *wrong)
