@@ -1,4 +1,4 @@
-"""What the tests of the firmware example share: running the program, what an image says, and what the program has to tell of it, by document 01."""
+"""What the tests of the firmware example share: running the program, what an image says, and what the program has to tell of it, by documents 01 and 02."""
 import os
 import shutil
 import subprocess
@@ -8,6 +8,9 @@ from pathlib import Path
 sys.path.insert(0, str(Path(__file__).resolve().parent.parent))
 import layout
 from level import LEVEL, at_level
+
+# The long sides of ISO 216, in millimetres. The formats are numbered from 1 in this order.
+LONG_SIDES = {"A1": 841, "A2": 594, "A3": 420, "A4": 297, "A5": 210, "B1": 1000, "B2": 707, "B3": 500, "B4": 353, "B5": 250}
 
 
 class Image:
@@ -55,12 +58,34 @@ def block(words):
     return layout.block(int(words[0]), [rank for rank, _ in pairs], [cost for _, cost in pairs])
 
 
+def sheet(fixed, speeds):
+    """A station sheet. What is not told of a station is 0."""
+    data = bytearray(layout.SHEET_SIZE)
+    layout.put_row(data, layout.SHEET_FIXED_AT, fixed, 2)
+    layout.put_row(data, layout.SHEET_SPEEDS_AT, speeds, 2)
+    return bytes(data)
+
+
+def format_costs(name, data, n):
+    """What a format costs at each station: "the fixed ticks plus long side divided by speed, rounded up"."""
+    fixed, speeds = layout.get_row(data, layout.SHEET_FIXED_AT, 2), layout.get_row(data, layout.SHEET_SPEEDS_AT, 2)
+    return [fixed[j] + (LONG_SIDES[name] + speeds[j] - 1) // speeds[j] for j in range(n)]
+
+
+def call(word, words, data):
+    """The call of `quote` or `offer` with `DUE_IN RANK:COST ..` or `DUE_IN RANK:FORMAT`, as the second simulator's lists have it; and its name there."""
+    rank, name = words[1].split(":")
+    if name in LONG_SIDES:
+        return f"{word}_format", f"{list(LONG_SIDES).index(name) + 1:08x} {int(words[0]):08x} {int(rank):02x} {data.hex()}"
+    return word, block(words).hex()
+
+
 class Runner:
-    """Runs the program in a folder of its own."""
+    """Runs the program in a folder of its own, beside which a station sheet may lie."""
 
     def __init__(self, program, shim, folder):
         self.program, self.shim, self.folder = os.path.abspath(program), os.path.abspath(shim), os.path.abspath(folder)
-        self.image = os.path.join(self.folder, "cabinet.image")
+        self.image, self.sheet = os.path.join(self.folder, "cabinet.image"), self.folder + ".sheet"
         self.runs = 0
         self.clear()
 
@@ -94,6 +119,14 @@ class Runner:
     def store(self, data):
         with open(self.image, "wb") as file:
             file.write(data)
+
+    def with_sheet(self, data):
+        """The options that give the program this sheet; none for None."""
+        if data is None:
+            return ()
+        with open(self.sheet, "wb") as file:
+            file.write(data)
+        return "--sheet", self.sheet
 
 
 def whole_lines(output):

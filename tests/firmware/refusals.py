@@ -1,15 +1,17 @@
 #!/usr/bin/env python3
-"""refusals.py PROGRAM SHIM LISTS FOLDER: what the program refuses, by number and in words.
+"""refusals.py PROGRAM SHIM WORDS LISTS FOLDER: what the program refuses, by number and in words.
 
 LISTS holds damaged and sound images that `gen images` of the second simulator wrote, with the simulator's number for each. The program has to resume a sound
 one and tell what it says; another it has to refuse by that number, with exit status 2 and without touching a file. Then every number that an order or a tick
-can get, from images at the ends of the ranges, and lines that are no requests."""
+can get, from images at the ends of the ranges; orders by format beside the same orders by costs; lines that are no requests; and station sheets that are none.
+WORDS is the part of the program that says a number in words, as a shared library: it is asked for the numbers, too, that no line of the counter leads to."""
+import ctypes
 import os
 import re
 import subprocess
 import sys
 
-from cabinet import Image, Runner, check, layout, whole_lines
+from cabinet import LONG_SIDES, Image, Runner, check, format_costs, layout, sheet, whole_lines
 
 CARRIAGE_RETURN = "not understood: the line ends in a carriage return and a line feed, and has to end in a line feed alone"
 REFUSED = re.compile(r"cabinet: the image \S+ is refused by number (\d+): .+ The file is left as it is\. .+\n")
@@ -74,29 +76,46 @@ def images(runner, folder):
     check(all(counts[number] >= 20 for number in (0, 3, 4)) and counts[2] >= 6, "too few")
 
 
-def answers(runner):
-    """Images made by hand, requests, and the numbers that document 01 gives them: 0 where the order is accepted."""
+def answers(runner, in_words):
+    """Images made by hand, requests, and the numbers that documents 01 and 02 give them: 0 where the order is accepted."""
     last, most, default = layout.LAST_TICK, layout.MAX_DUE_IN, layout.DEFAULT_DUE_IN
-    one = f"offer {most} 0:1\n"
+    one, format_one = f"offer {most} 0:1\n", f"offer {most} 0:A5\n"
+    # Sheets by which A5 costs 1 everywhere, and A3 what document 01's first order does.
+    fast, two = sheet([0] * 8, [210] * 8), sheet([1, 2], [420, 420])
     words = {}
-    for n, clock, ticket, text, numbers in (
-            (1, 0, 1, one * (layout.MAX_LIVE + 1) + "wait 1\n" + one + f"quote {most} 0:1\n", [0] * layout.MAX_LIVE + [10, 0, 10]),
-            (2, 0, 1, "offer 20 0:2 0:3\nquote 6 5:1 5:2\noffer 6 5:1 5:2\noffer 7 5:1 5:2\n", [0, 11, 11, 0]),
-            (2, 0, 1, "offer 6 0:2 0:3\nquote 100 5:1 5:2\noffer 100 5:1 5:2\n", [0, 12, 12]),
-            (2, 0, 1, "offer 9 0:1\noffer 9\noffer 9 0:1 0:1 0:1\noffer 9 0:1 0:1 1:0\n", [6, 6, 6, 6]),
-            (2, 0, 1, f"offer 9 0:{layout.MAX_COST + 1} 0:1\nquote 9 0:0 0:1\n", [6, 6]),
-            (1, 0, 1, f"offer {most + 1} 0:1\noffer {2**32 - 1} 0:1\n{one}offer 0 0:1\n", [7, 7, 0, 0]),
-            (1, last - 5, 1, "offer 6 0:1\nquote 6 0:1\noffer 0 0:1\noffer 5 0:1\n", [8, 8, 8, 0]),
-            (1, 7, 0, "offer 6 0:1\nquote 6 0:1\n", [9, 9]),
-            (1, 7, layout.LAST_TICKET, "offer 6 0:1\noffer 6 0:1\n", [0, 9])):
+    for n, clock, ticket, text, numbers, given in (
+            (1, 0, 1, one * (layout.MAX_LIVE + 1) + "wait 1\n" + one + f"quote {most} 0:1\n", [0] * layout.MAX_LIVE + [10, 0, 10], None),
+            (2, 0, 1, "offer 20 0:2 0:3\nquote 6 5:1 5:2\noffer 6 5:1 5:2\noffer 7 5:1 5:2\n", [0, 11, 11, 0], None),
+            (2, 0, 1, "offer 6 0:2 0:3\nquote 100 5:1 5:2\noffer 100 5:1 5:2\n", [0, 12, 12], None),
+            (2, 0, 1, "offer 9 0:1\noffer 9\noffer 9 0:1 0:1 0:1\noffer 9 0:1 0:1 1:0\n", [6, 6, 6, 6], None),
+            (2, 0, 1, f"offer 9 0:{layout.MAX_COST + 1} 0:1\nquote 9 0:0 0:1\n", [6, 6], None),
+            (1, 0, 1, f"offer {most + 1} 0:1\noffer {2**32 - 1} 0:1\n{one}offer 0 0:1\n", [7, 7, 0, 0], None),
+            (1, last - 5, 1, "offer 6 0:1\nquote 6 0:1\noffer 0 0:1\noffer 5 0:1\n", [8, 8, 8, 0], None),
+            (1, 7, 0, "offer 6 0:1\nquote 6 0:1\n", [9, 9], None),
+            (1, 7, layout.LAST_TICKET, "offer 6 0:1\noffer 6 0:1\n", [0, 9], None),
+            (1, 0, 1, format_one * (layout.MAX_LIVE + 1) + f"quote {most} 0:A5\n", [0] * layout.MAX_LIVE + [10, 10], fast),
+            (2, 0, 1, "offer 20 0:A3\nquote 7 5:A3\noffer 7 5:A5\noffer 5 0:A3\n", [0, 11, 11, 11], two),
+            (2, 0, 1, "offer 5 0:A3\nquote 100 5:A4\noffer 100 5:A4\n", [0, 12, 12], two),
+            (1, 0, 1, f"offer {most + 1} 0:A5\noffer {2**32 - 1} 0:A5\n{format_one}offer 0 0:A5\n", [7, 7, 0, 0], fast),
+            (1, last - 5, 1, "offer 6 0:A5\nquote 6 0:A5\noffer 0 0:A5\noffer 5 255:A5\n", [8, 8, 8, 0], fast),
+            (1, 7, 0, "offer 6 0:A5\nquote 6 0:A5\n", [9, 9], fast),
+            # Costs at the end of their range, and beyond it; a sheet with numbers as large as they can be.
+            (1, 0, 1, "offer 0 0:A5\nquote 0 0:A4\noffer 0 0:A4\n", [0, 6, 6], sheet([layout.MAX_COST - 1], [210])),
+            (2, 0, 1, "offer 0 0:A5\nquote 0 0:B1\n", [6, 6], sheet([65535] * 8, [1] * 8)),
+            # A speed of 0 counts before costs and due-in do; at a station that is not there it does not.
+            (2, 0, 1, f"offer {most + 1} 0:A5\nquote 9 0:B1\n", [20, 20], sheet([65535], [1])),
+            (2, 0, 1, "offer 0 0:A1\nquote 0 0:A1\n", [20, 20], sheet([0, 0], [0, 9])),
+            (2, 0, 1, "offer 0 0:A1\nquote 0 0:A1\n", [0, 0], sheet([0, 0, 65535], [9, 9, 0])),
+            (2, 0, 1, "offer 9 0:A1\nquote 9 0:B5\noffer 9 0:1 0:1\n", [5, 5, 0], None)):
         runner.clear()
         runner.store(empty_image(n, clock, ticket))
-        status, output, errors = runner.run(text, "--tick", 0)
+        status, output, errors = runner.run(text, "--tick", 0, *runner.with_sheet(given))
         lines = [line for line in whole_lines(output)[1:] if not line.startswith("tick")]
         check((status, errors, len(lines)) == (0, "", len(numbers)), text, "ends with", status, errors, lines)
         for line, number in zip(lines, numbers):
             told = re.fullmatch(r"declined (\d+)( margin -\d+)?: (.+)", line)
-            check(line.startswith("accepted") if number == 0 else told and int(told[1]) == number and bool(told[2]) == (number in (11, 12)), text, number, line)
+            check(line.startswith(("accepted", "quoted")) if number == 0 else told and int(told[1]) == number and bool(told[2]) == (number in (11, 12)), text,
+                  number, line)
             if told:
                 words.setdefault(int(told[1]), set()).add(told[3])
     # "X, due-in 20, at 0: ticket 1, tick 5, margin 15", and Y after it; and due-in 0 stands for the default.
@@ -121,8 +140,29 @@ def answers(runner):
         told = re.fullmatch(r"cabinet: the cabinet is not opened, number 14: (.+)\.\n", errors)
         check(status == 1 and output == b"" and told and os.listdir(runner.folder) == [], n, "stations:", status, output, errors)
         words.setdefault(14, set()).add(told[1])
-    check(sorted(words) == list(range(6, 15)) and all(len(texts) == 1 for texts in words.values()) and len(set.union(*words.values())) == 9, words)
-    print("numbers 6 to 14, each in words of its own")
+    check(sorted(words) == [*range(5, 15), 20] and all(len(texts) == 1 for texts in words.values()), words)
+    # Where there is no sheet, 5 has words that name the option.
+    check("--sheet" in max(words.pop(5)) and all(texts == {in_words(number)} for number, texts in words.items()), words)
+    numbers, others = [*range(15), 19, 20], [*range(15, 19), 21, 22, 255, 2**32 - 1]
+    check(len({in_words(number) for number in numbers}) == len(numbers) and {in_words(number) for number in others} == {"no call gives this number"}, "words")
+    print(f"{len(numbers)} numbers, each in words of its own")
+
+
+def formats(runner):
+    """Each format is answered as the same order by costs is, quoted and offered, and leaves the same image."""
+    given = sheet([4, 30, 6, 9], [20, 50, 100, 0])
+    lines = {}
+    for name in LONG_SIDES:
+        costs = " ".join(f"5:{cost}" for cost in format_costs(name, given, 3))
+        for order in (f"5:{name}", costs):
+            runner.clear()
+            status, output, errors = runner.run(f"quote 600 {order}\noffer 600 {order}\n", "--stations", 3, "--tick", 0, *runner.with_sheet(given))
+            lines[order] = whole_lines(output)[1:], runner.stored()
+            check((status, errors, len(lines[order][0])) == (0, "", 2) and lines[order][0][1].startswith("accepted ticket 1 "), order, status, errors, output)
+        check(lines[f"5:{name}"] == lines[costs], name, "and", costs, "are answered by", lines[f"5:{name}"][0], "and", lines[costs][0])
+    # "420 divided by 50, rounded up": 30 + 9 ticks at the second station, and 25 + 39 + 39 in all.
+    check(lines["5:A3"] == lines["5:25 5:39 5:11"] and " out-by 103 " in lines["5:A3"][0][0], "A3:", lines["5:A3"][0])
+    print(f"{len(LONG_SIDES)} formats, each as the same order by costs")
 
 
 def lines_and_options(runner):
@@ -134,7 +174,7 @@ def lines_and_options(runner):
     status, output, errors = runner.run("status\n", "--tick", 0, "--stations", 3)
     check(status == 2 and output == b"" and "is of 2 stations, and not of 3" in errors and seen(runner) == before, "other stations:", status, output, errors)
     for options in (("--tick",), ("--tick", "x"), ("--tick", "-1"), ("--tick", "60001"), ("--stations", ""), ("--stations", "4294967296"), ("--clock", "1"),
-                    ("1",)):
+                    ("1",), ("--sheet",), ("--sheet", "")):
         status, output, errors = runner.run("status\n", *options)
         check(status == 1 and output == b"" and re.fullmatch("cabinet: .+\n", errors) and seen(runner) == before, options, status, output, errors)
 
@@ -154,11 +194,15 @@ def lines_and_options(runner):
              b"offer 9" + b" 0:1" * 9, b"offer 99999999999999999999999999 0:1 0:1", b"wait", b"wait x", b"wait 1 ",
              b"wait 4294967296", b"status ", b"Status", b"offer 9 0:1 0:1" + b" " * 300, long_line, b"x" * 255, b"x" * 256, b"x" * 257, b"x" * 511, b"x" * 512,
              b"x" * 513]
+    wrong += [word + b" 9 " + order for word in (b"offer", b"quote") for order in (
+        b"0:A6", b"0:A0", b"0:B0", b"0:B6", b"0:C3", b"0:a3", b"0:A", b"0:A3 ", b"0:A33", b"0:A3 0:A3", b"0:A3 0:1", b"0:1 0:A3", b"0:A3:1", b"0:A3\0",
+        b"0:A3 0", b"A3", b"A3 0", b"A3:0", b":A3", b"0: A3", b" 0:A3", b"256:A3", b"-1:A3", b"0:A10", b"0:1A3", b"0:A3A3", b"0:\xc3\x84", b"0:A3\r")]
+    wrong += [b"offer 4294967296 0:A3", b"offer 0:A3", b"offer A3 0:9", b"format 9 0:A3"]
     wrong += [b"offer 9 0:1 0:1\r", b"quote 9 0:1 0:1\r", b"wait 1\r", b"status\r", b"status\r\r", b"status \r", b"\r", b"x" * 254 + b"\r",
               b"x" * 255 + b"\r", b"x" * 600 + b"\r", b"status\0\r", b"\rstatus", b"offer 9\r0:1 0:1", b"sta\rtus", b"status\r "]
     for text in wrong:
         runner.store(empty_image(2, 5, 3))
-        status, output, errors = runner.run(text + b"\nstatus\n", "--tick", 0)
+        status, output, errors = runner.run(text + b"\nstatus\n", "--tick", 0, *runner.with_sheet(sheet([0] * 8, [1000] * 8)))
         lines = whole_lines(output)
         check((status, errors, len(lines)) == (0, "", 3) and lines[1].startswith("not understood: ") and
               lines[2] == Image(empty_image(2, 5, 3)).lines("status")[0], text, status, errors, lines)
@@ -175,11 +219,42 @@ def lines_and_options(runner):
     print(f"{len(wrong) + 4} lines that are no requests, those that end in a carriage return in words of their own, and the options")
 
 
-def main(program, shim, lists, folder):
+def sheets(runner):
+    """Station sheets that are none end the program before it looks at an image, in words that name the file; and no file is touched or made."""
+    size, good = layout.SHEET_SIZE, sheet([0] * 8, [1000] * 8)
+    lengths = (0, 1, size // 2, size - 1, size + 1, 2 * size, layout.IMAGE_SIZE)
+    for image in (None, empty_image(2, 5, 3), empty_image(2, 5, 3)[:-1]):
+        runner.clear()
+        if image is not None:
+            runner.store(image)
+        before = seen(runner)
+        wrong = [((good * layout.IMAGE_SIZE)[:length], rf"has (at least )?{min(length, size + 1)} bytes, and not {size}: .+") for length in lengths]
+        for data, words in wrong:
+            status, output, errors = runner.run("offer 9 0:A5\n", "--tick", 0, "--stations", 2, *runner.with_sheet(data))
+            told = re.fullmatch(rf"cabinet: the station sheet {re.escape(runner.sheet)} {words}\n", errors)
+            check((status, output) == (6, b"") and told and bool(told[1]) == (len(data) > size), len(data), "bytes as a sheet:", status, output, errors)
+            check(seen(runner) == before, len(data), "bytes as a sheet change a file")
+        for path, why in ((runner.folder + "/none", "No such file or directory"), (runner.folder, "Is a directory")):
+            status, output, errors = runner.run("offer 9 0:A5\n", "--tick", 0, "--stations", 2, "--sheet", path)
+            told = errors.startswith(f"cabinet: cannot read the station sheet {path}: {why}. ")
+            check((status, output) == (6, b"") and told and seen(runner) == before, path, "as a sheet:", status, output, errors)
+    # A good one, also where every read is interrupted once.
+    for settings in ({}, {"pieces": 1}):
+        runner.clear()
+        lines = whole_lines(runner.run("quote 9 0:A5\n", "--tick", 0, "--stations", 2, *runner.with_sheet(good), **settings)[1])
+        check(lines[1:] == ["quoted out-by 2 due 9 margin 7"], "a good sheet:", lines)
+    print(f"{3 * len(lengths) + 6} station sheets that are none")
+
+
+def main(program, shim, words, lists, folder):
     runner = Runner(program, shim, folder)
+    words = ctypes.CDLL(os.path.abspath(words))
+    words.in_words.restype, words.in_words.argtypes = ctypes.c_char_p, [ctypes.c_uint32]
     images(runner, lists)
-    answers(runner)
+    answers(runner, lambda number: words.in_words(number).decode())
+    formats(runner)
     lines_and_options(runner)
+    sheets(runner)
     print(f"the program was started {runner.runs} times")
 
 
