@@ -144,7 +144,8 @@ def answers(runner, in_words):
     # Where there is no sheet, 5 has words that name the option.
     check("--sheet" in max(words.pop(5)) and all(texts == {in_words(number)} for number, texts in words.items()), words)
     numbers, others = [*range(15), 19, 20], [*range(15, 19), 21, 22, 255, 2**32 - 1]
-    check(len({in_words(number) for number in numbers}) == len(numbers) and {in_words(number) for number in others} == {"no call gives this number"}, "words")
+    said, none = {in_words(number) for number in numbers}, {in_words(number) for number in others}
+    check(len(said) == len(numbers) and none == {"no call gives this number"} and not said & none, "the words of numbers:", said, none)
     print(f"{len(numbers)} numbers, each in words of its own")
 
 
