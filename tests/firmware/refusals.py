@@ -163,6 +163,10 @@ def formats(runner):
         check(lines[f"5:{name}"] == lines[costs], name, "and", costs, "are answered by", lines[f"5:{name}"][0], "and", lines[costs][0])
     # "420 divided by 50, rounded up": 30 + 9 ticks at the second station, and 25 + 39 + 39 in all.
     check(lines["5:A3"] == lines["5:25 5:39 5:11"] and " out-by 103 " in lines["5:A3"][0][0], "A3:", lines["5:A3"][0])
+    # Another sheet is for the orders after it.
+    before = runner.stored()
+    status, _, errors = runner.run("status\n", "--tick", 0, *runner.with_sheet(sheet([9] * 8, [9] * 8)))
+    check((status, errors, runner.stored()) == (0, "", before), "another sheet changes the image")
     print(f"{len(LONG_SIDES)} formats, each as the same order by costs")
 
 
