@@ -9,7 +9,7 @@ use Rattle.model.specs.Table.{Row, opened, onward, held, Hold, AllHold}
 use Rattle.model.specs.Cases.{block, order, X, Y, accepts, late, declines, quotes, advances, firstTwo, lateArrival, lateLive, ranksReversed, startsAtTwo, oneStation, eightStations, paperCases, byteBlock, bytesInOrder, equalRanks, ranksOfTheStation, noPreemption, quotesOnly, outStillCounts, noStartSkipped, defaultInUse, smallestOfMany, bothLate, oneTick, sizesAndStations, orderBlocks, lastDueTick, lastClock, lastTicketGiven, recordBytes, thirtyTwoLive, allStationsAtOnce, unmarks, spoils, bears, soundImages, tickCases, offerCases, imageCases, furtherCases}
 
 -- A case is computed only once the one before it holds: a wrong definition is refused at the first row that it breaks.
-after : {A B : Type 0} → A → B → B
+pub after : {A B : Type 0} → A → B → B
 after a b = b
 
 first-two-hold : Hold firstTwo

@@ -9,8 +9,8 @@ use lib.Signed.{ltZ}
 use Rattle.model.specs.declared.Block.{Block}
 use Rattle.model.specs.declared.Order.{Order}
 use Rattle.model.specs.Limits.{maxLive, maxDueIn, defaultDueIn, lastTick, lastTicket}
-use Rattle.model.specs.Lists.{isZero, largest, larger, all}
-use Rattle.model.specs.Bytes.{word, eightBytes, eightHalves}
+use Rattle.model.specs.Lists.{isZero, largest, larger, concat, all}
+use Rattle.model.specs.Bytes.{word, eightBytes, eightHalves, twoBytes, fourBytes}
 use Rattle.model.specs.State.{State}
 use Rattle.model.specs.DelayBound.{sumOf, maximaOf, boundTick, onTime, margin}
 use Rattle.model.specs.Layout.{blockSize, blockDueInAt, blockRanksAt, blockCostsAt}
@@ -20,6 +20,10 @@ use Rattle.model.specs.Questions.{Question, _else_, Answer, zeros}
 -- "An order block is 28 bytes: due-in (4), eight ranks, eight costs (2 each)."
 unfoldable pub blockOf : List ℕ → Block
 blockOf s = record { «due_in» = word s blockDueInAt; ranks = eightBytes s blockRanksAt; costs = eightHalves s blockCostsAt }
+
+-- The bytes that say it.
+unfoldable pub blockBytes : Block → List ℕ
+blockBytes b = fourBytes (b .«due_in») ++ b .ranks ++ concat (map twoBytes (b .costs))
 
 -- "Due tick = tick of acceptance + due-in." A due-in of 0 stands for the default.
 unfoldable pub dueOf : ℕ → Block → ℕ

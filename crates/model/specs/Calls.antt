@@ -7,6 +7,7 @@ use lib.Dec.{ltb, eqb}
 use lib.IntN.{pos}
 use Rattle.model.specs.Limits.{maxStations, lastTick}
 use Rattle.model.specs.Lists.{within, isZero}
+use Rattle.model.specs.declared.Block.{Block}
 use Rattle.model.specs.State.{State, fresh}
 use Rattle.model.specs.Tick.{advance, advanceOut}
 use Rattle.model.specs.Layout.{imageSize, replySize}
@@ -14,6 +15,7 @@ use Rattle.model.specs.Image.{marked, decode, encode}
 use Rattle.model.specs.Soundness.{sound}
 use Rattle.model.specs.Questions.{Question, _else_, firstNo, Answer, replyBytes, zeros}
 use Rattle.model.specs.Admission.{blockOf, accept, orderQuestions, offerAnswer, quoteAnswer}
+use Rattle.model.specs.Formats.{FormatOrder, formatBlock, formatOrderQuestions}
 
 -- What a call returns and leaves in the buffers.
 pub record Result : Type 0 where
@@ -44,21 +46,34 @@ openNumber image n reply = firstNo (replyQuestion reply ∷ lengthQuestion image
 unfoldable pub openCall : List ℕ → ℕ → List ℕ → Result
 openCall image n reply = let done = encode (fresh n) in result (openNumber image n reply) zeros image done reply
 
+-- What an offer gives and leaves, by its number and the block that it takes. "Quote gives what offer would give, with ticket 0, and changes nothing in the image."
+abbrev pub offered : ℕ → List ℕ → Block → List ℕ → Result
+offered number image b reply =
+    let done = encode (accept (decode image) b) in
+    result number (offerAnswer number (decode image) b) image done reply
+
+abbrev pub quoted : ℕ → List ℕ → Block → List ℕ → Result
+quoted number image b reply = result number (quoteAnswer number (decode image) b) image image reply
+
 -- "quote and offer 1 to 12".
 unfoldable pub offerNumber : List ℕ → List ℕ → List ℕ → ℕ
 offerNumber image block reply = firstNo (replyQuestion reply ∷ imageQuestions image ++ orderQuestions (decode image) block)
 
 unfoldable pub offerCall : List ℕ → List ℕ → List ℕ → Result
-offerCall image block reply =
-    let number = offerNumber image block reply in
-    let done = encode (accept (decode image) (blockOf block)) in
-    result number (offerAnswer number (decode image) (blockOf block)) image done reply
+offerCall image block reply = let number = offerNumber image block reply in offered number image (blockOf block) reply
 
--- "Quote gives what offer would give, with ticket 0, and changes nothing in the image."
 unfoldable pub quoteCall : List ℕ → List ℕ → List ℕ → Result
-quoteCall image block reply =
-    let number = offerNumber image block reply in
-    result number (quoteAnswer number (decode image) (blockOf block)) image image reply
+quoteCall image block reply = let number = offerNumber image block reply in quoted number image (blockOf block) reply
+
+-- Document 02, (i): "Offered or quoted, it gets the reply, and leaves the image, that the same order written as a block does"
+unfoldable pub formatNumber : List ℕ → FormatOrder → List ℕ → ℕ
+formatNumber image f reply = firstNo (replyQuestion reply ∷ imageQuestions image ++ formatOrderQuestions (decode image) f)
+
+unfoldable pub offerFormatCall : List ℕ → FormatOrder → List ℕ → Result
+offerFormatCall image f reply = let number = formatNumber image f reply in offered number image (formatBlock (decode image .n) f) reply
+
+unfoldable pub quoteFormatCall : List ℕ → FormatOrder → List ℕ → Result
+quoteFormatCall image f reply = let number = formatNumber image f reply in quoted number image (formatBlock (decode image .n) f) reply
 
 -- "advance 1 to 4, then 13"; "advance gives the ticket out or 0, the new clock, and 0".
 unfoldable pub advanceNumber : List ℕ → List ℕ → ℕ
@@ -80,10 +95,14 @@ pub data Call : Type 0 where
   opening : ℕ → Call
   quoting : List ℕ → Call
   offering : List ℕ → Call
+  quotingFormat : FormatOrder → Call
+  offeringFormat : FormatOrder → Call
   advancing : Call
 
 unfoldable pub perform : Call → List ℕ → List ℕ → Result
 perform (opening n) image reply = openCall image n reply
 perform (quoting block) image reply = quoteCall image block reply
 perform (offering block) image reply = offerCall image block reply
+perform (quotingFormat f) image reply = quoteFormatCall image f reply
+perform (offeringFormat f) image reply = offerFormatCall image f reply
 perform advancing image reply = advanceCall image reply

@@ -14,7 +14,8 @@ use Rattle.model.specs.State.{idle}
 use Rattle.model.specs.Tick.{View, startEach, oneLess, stationAfter, vacate}
 use Rattle.model.specs.DelayBound.{sumOf, maximaOf, delayBound}
 use Rattle.model.specs.Admission.{blockOf, dueOf}
-use Rattle.model.specs.Calls.{Call, opening, quoting, offering, advancing}
+use Rattle.model.specs.Formats.{formatBlock}
+use Rattle.model.specs.Calls.{Call, opening, quoting, offering, quotingFormat, offeringFormat, advancing}
 
 -- An accepted order: its block, the tickets of its interference set (document 01: company), and its out tick once it is out.
 pub record Entry : Type 0 where
@@ -108,12 +109,16 @@ leaveIn h = record { n = h .n; clock = h .clock; services = map vacate (h .servi
 unfoldable pub advanceIn : History → History
 advanceIn h = leaveIn (tickIn (startsIn h))
 
--- A call and the number that it returned. "Quote, and any call returning another number: nothing changes."
+-- A call and the number that it returned. "Quote, and any call returning another number: nothing changes." Document 02, (i): "in demand
+-- 3's lists and in the run book it counts as that block", the one that it stands for at the book's own N.
 unfoldable pub feed : Call → ℕ → History → History
 feed (opening n) number h = h
 feed (quoting block) number h = h
 feed (offering block) zero h = acceptIn (blockOf block) h
 feed (offering block) (suc other) h = h
+feed (quotingFormat f) number h = h
+feed (offeringFormat f) zero h = acceptIn (formatBlock (h .n) f) h
+feed (offeringFormat f) (suc other) h = h
 feed advancing zero h = advanceIn h
 feed advancing (suc other) h = h
 

@@ -1,4 +1,4 @@
--- Document 01 as definitions, all but plan's, in its order.
+-- Document 01 as definitions, all but plan's, in its order; and of document 02, order by paper format.
 pub mod Lists
 pub mod Limits
 pub mod Bytes
@@ -10,9 +10,11 @@ pub mod Image
 pub mod Soundness
 pub mod Questions
 pub mod Admission
+pub mod Formats
 pub mod Calls
 pub mod History
 pub mod StateOf
 pub mod Runs
 pub mod Table
 pub mod Cases
+pub mod FormatCases

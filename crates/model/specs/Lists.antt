@@ -1,7 +1,7 @@
 -- Words about lists and tests that document 01 takes for granted.
 use mathlib.Core.Bool.{Bool, true, false, cond, _&&_, _||_}
 use mathlib.Core.List.{List, [], _∷_, _++_}
-use Prim.Native.Nat.{ℕ, zero, suc, _+_, max}
+use Prim.Native.Nat.{ℕ, zero, suc, _+_, _-_, _/_, max}
 use lib.ListN.{getD, take, drop}
 use lib.Dec.{leb, eqb}
 
@@ -19,6 +19,10 @@ at d l k = getD (d ∷ l) k d
 -- n entries from place i on, counted from 0.
 abbrev pub part : {A : Type 0} → List A → ℕ → ℕ → List A
 part l i n = take n (drop i l)
+
+-- a / b, rounded up
+unfoldable pub roundedUp : ℕ → ℕ → ℕ
+roundedUp a b = (a + (b - 1)) / b
 
 unfoldable pub total : List ℕ → ℕ
 total [] = 0

@@ -2,7 +2,7 @@
 use mathlib.Core.Logic.{_≢_}
 use mathlib.Core.List.{List, [], _∷_}
 use Prim.Native.Nat.{ℕ}
-use Rattle.model.specs.Calls.{Result, openCall, Call, opening, quoting, offering, advancing, perform}
+use Rattle.model.specs.Calls.{Result, openCall, Call, opening, quoting, offering, quotingFormat, offeringFormat, advancing, perform}
 use Rattle.model.specs.History.{History, begun, feed}
 
 -- A call of the list, with the reply buffer that is lent to it: "the reply buffer of each call has any length and holds any bytes".
@@ -38,6 +38,8 @@ abbrev pub Allowed : Call → Result → Type 0
 Allowed (opening n) result = result .number ≢ 0
 Allowed (quoting block) result = Unit {0}
 Allowed (offering block) result = Unit {0}
+Allowed (quotingFormat f) result = Unit {0}
+Allowed (offeringFormat f) result = Unit {0}
 Allowed advancing result = Unit {0}
 
 abbrev pub AllAllowed : Run → List Lent → Type 0

@@ -3,7 +3,8 @@ use mathlib.Core.Path.{_≡_}
 use Prim.Native.Nat.{ℕ, _+_, _-_, _*_, _/_, _≤_, _<_}
 use native.Mathlib.Nat.{le-mul-of-pos-right, add-mul, div-lt-iff-lt-mul, le-div-iff-mul-le, div-mul-le-self}
 use native.Mathlib.Omega.{arith}
-use Rattle.plan_model.specs.Response.{roundedUp, releases}
+use Rattle.model.specs.Lists.{roundedUp}
+use Rattle.plan_model.specs.Response.{releases}
 
 up-most : (a b : ℕ) → 1 ≤ b → roundedUp a b ≤ a
 unfolding roundedUp

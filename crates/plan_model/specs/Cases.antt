@@ -4,14 +4,14 @@ use mathlib.Core.List.{List, [], _∷_, _++_}
 use Prim.Native.Nat.{ℕ}
 use lib.ListN.{replicate}
 use lib.Dec.{eqb}
-use Rattle.model.specs.Lists.{total, largest, larger, concat, all, same, numbered, upward}
+use Rattle.model.specs.Lists.{roundedUp, total, largest, larger, concat, all, same, numbered, upward}
 use Rattle.model.specs.Questions.{firstNo}
 use Rattle.model.specs.DelayBound.{maximaOf}
 use Rattle.text.specs.Ascii.{ascii}
 use Rattle.text.specs.Decimal.{digits, decimal}
 use Rattle.plan_model.specs.declared.Task.{Task}
 use Rattle.plan_model.specs.Base.{largestCost, stageMaxima, base}
-use Rattle.plan_model.specs.Response.{roundedUp, releases, share, others, next, ends, settled, responseFrom, verdictOf}
+use Rattle.plan_model.specs.Response.{releases, share, others, next, ends, settled, responseFrom, verdictOf}
 use Rattle.plan_model.specs.Plan.{inRange, planQuestions, planNumber, response, withFigures, figured, planned}
 use Rattle.plan_model.specs.Parts.{parts, lastOf}
 use Rattle.plan_model.specs.Number.{isNumber, valueOf}

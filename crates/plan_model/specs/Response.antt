@@ -1,17 +1,13 @@
 -- The response of a task: the sequence of R, where it ends, and the verdict.
 use mathlib.Core.Bool.{Bool, true, false, _||_}
 use mathlib.Core.List.{List, [], _∷_, map}
-use Prim.Native.Nat.{ℕ, zero, suc, _+_, _-_, _*_, _/_}
+use Prim.Native.Nat.{ℕ, zero, suc, _+_, _*_}
 use lib.Dec.{eqb, leb}
-use Rattle.model.specs.Lists.{total}
+use Rattle.model.specs.Lists.{roundedUp, total}
 use Rattle.plan_model.specs.declared.Task.{Task}
 use Rattle.plan_model.specs.declared.Verdict.{Verdict}
 use Rattle.plan_model.specs.declared.Verdict.the-variants.{OnTime, Late}
 use Rattle.plan_model.specs.Base.{largestCost}
-
--- a / b, rounded up
-unfoldable pub roundedUp : ℕ → ℕ → ℕ
-roundedUp a b = (a + (b - 1)) / b
 
 -- "R / period of i, rounded up": how many releases of a task with this deadline and period count against R. The deadline plays no part in it.
 unfoldable pub releases : (R deadline period : ℕ) → ℕ

@@ -2,7 +2,8 @@
 use mathlib.Core.Path.{refl}
 use native.Mathlib.Omega.{arith}
 use borrow.Author.Needs.{needs}
-use Rattle.plan_model.specs.Response.{roundedUp, releases}
+use Rattle.model.specs.Lists.{roundedUp}
+use Rattle.plan_model.specs.Response.{releases}
 use Rattle.plan_model.proofs.Releases.{releases-most}
 use Rattle.plan_core.proofs.response.releases.Statement.{statement}
 use Rattle.plan_core.proofs.response.releases.Tie as tie
