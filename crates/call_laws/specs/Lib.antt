@@ -4,6 +4,8 @@ pub mod OpenExact
 pub mod Considered
 pub mod OfferExact
 pub mod OfferKept
+-- What holds of every offer and quote by paper format.
+pub mod FormatExact
 -- What holds of every advance.
 pub mod AdvanceExact
 pub mod AdvanceKept

@@ -17,11 +17,11 @@ use Rattle.image_laws.proofs.Rows.{below-listed, below-append, below-ro
 use Rattle.image_laws.proofs.Numbers.{byte-of-one, half-of-two, word-of-four, half-low, half-high, word-first, word-second, word-third, word-fourth}
 
 -- A list of eight by its entries.
-eight-is : (l : List ℕ) → length l ≡ maxStations → eightBytes l 0 ≡ l
+pub eight-is : (l : List ℕ) → length l ≡ maxStations → eightBytes l 0 ≡ l
 unfolding eightBytes upward
 eight-is l h = upward-list 0 l maxStations h
 
-halves-read : (l : List ℕ) → Row halfLimit l → eightHalves (concat (map twoBytes (eightBytes l 0))) 0 ≡ l
+pub halves-read : (l : List ℕ) → Row halfLimit l → eightHalves (concat (map twoBytes (eightBytes l 0))) 0 ≡ l
 unfolding eightHalves concat eightBytes
 halves-read l f =
     rw (

@@ -53,7 +53,7 @@ module _ {A : Type 0} where
   pub upward-list : (d : A) (l : List A) (n : ℕ) → length l ≡ n → upward 0 n (λ i. getD l i d) ≡ l
   upward-list d l n h = drop-upward d l 0 n (omega arith)
 
-  getD-from : (k n : ℕ) (f : ℕ → A) (i : ℕ) (d : A) → i < n → getD (upward k n f) i d ≡ f (k + i)
+  pub getD-from : (k n : ℕ) (f : ℕ → A) (i : ℕ) (d : A) → i < n → getD (upward k n f) i d ≡ f (k + i)
   unfolding upward
   getD-from k zero f i d h = absurd (let z : ⊥ = omega arith in z)
   getD-from k (suc n) f zero d h = rw (add-zero k)

@@ -6,3 +6,4 @@ pub mod Questions
 pub mod Maxima
 pub mod Overlays
 pub mod Signs
+pub mod Rounding

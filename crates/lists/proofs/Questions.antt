@@ -37,6 +37,21 @@ after [] m h = refl
 after ((true else j) ∷ l) m h = after l m h
 after ((false else j) ∷ l) m h = absurd (true≢false (sym h))
 
+-- Questions decide alike before lists that decide alike.
+pub same-after : (l m n : List Question) → firstNo m ≡ firstNo n → firstNo (l ++ m) ≡ firstNo (l ++ n)
+unfolding firstNo
+same-after [] m n e = e
+same-after ((true else j) ∷ l) m n e = same-after l m n e
+same-after ((false else j) ∷ l) m n e = refl
+
+-- A number that no question gives does not come out.
+pub never : (k : ℕ) (l : List Question) → all (gives-other k) l ≡ true → firstNo l ≡ k → k ≡ 0
+unfolding all firstNo gives-other
+never k [] h e = sym e
+never k ((true else j) ∷ l) h e = never k l (and-both (not (eqb j k)) (all (gives-other k) l) h .1) e
+never k ((false else j) ∷ l) h e =
+    absurd (eqb-false j k (not-true (eqb j k) (and-both (not (eqb j k)) (all (gives-other k) l) h .0)) e)
+
 -- Of three questions.
 pub three-pass : (a b c : Bool) (i j k : ℕ) → all answer ((a else i) ∷ (b else j) ∷ (c else k) ∷ []) ≡ true → (a ≡ true) × (b ≡ true) × (c ≡ true)
 unfolding all answer

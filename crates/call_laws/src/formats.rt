@@ -1,0 +1,1 @@
+// Theorems only: what holds of every offer and quote by paper format, whatever is lent.
