@@ -1,3 +1,5 @@
+-- The block of an order by format, in two bytes a cost.
+pub mod Formats
 -- The range of margins.
 pub mod Margins
 -- What the answers to an offer say.

@@ -30,13 +30,13 @@ module _ {A : Type 0} where
   pub upward-more : (n : ℕ) (f : ℕ → A) → upward 0 (n + 1) f ≡ upward 0 n f ++ (f n ∷ [])
   upward-more n f = rw add-one (upward-last 0 n f ∙ rw (zero-add n))
 
-  upward-from : (k n : ℕ) (f g : ℕ → A) → ((i : ℕ) → i < k + n → f i ≡ g i) → upward k n f ≡ upward k n g
+  pub upward-from : (k n : ℕ) (f g : ℕ → A) → ((i : ℕ) → k ≤ i → i < k + n → f i ≡ g i) → upward k n f ≡ upward k n g
   unfolding upward
   upward-from k zero f g same = refl
-  upward-from k (suc n) f g same = rw (same k (omega arith), upward-from (suc k) n f g (λ i h. same i (omega arith)))
+  upward-from k (suc n) f g same = rw (same k (omega arith) (omega arith), upward-from (suc k) n f g (λ i low h. same i (omega arith) (omega arith)))
 
   pub upward-same : (n : ℕ) (f g : ℕ → A) → ((i : ℕ) → i < n → f i ≡ g i) → upward 0 n f ≡ upward 0 n g
-  upward-same n f g same = upward-from 0 n f g (λ i h. same i (omega arith))
+  upward-same n f g same = upward-from 0 n f g (λ i low h. same i (omega arith))
 
   drop-upward : (d : A) (l : List A) (k n : ℕ) → k + n ≡ length l → upward k n (λ i. getD l i d) ≡ drop k l
   unfolding upward

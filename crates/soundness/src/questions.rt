@@ -29,6 +29,8 @@ pub enum Answer {
     BlockLength,
     Clock,
     Stations,
+    Format,
+    Speed,
 }
 
 // Document 01's number for an answer. Neither 0 for a "no" nor one number for two answers meets the promise.
@@ -44,6 +46,8 @@ pub fn number(answer: Answer) -> u32
         Answer::BlockLength => 5,
         Answer::Clock => 13,
         Answer::Stations => 14,
+        Answer::Format => 19,
+        Answer::Speed => 20,
     }
 }
 
