@@ -1,2 +1,3 @@
--- Laws of the table of long sides and of rows up to a station.
+-- Laws of the table of long sides, of rows up to a station, and of costs that two bytes do not hold.
 pub mod FormatLaws
+pub mod HeldLaws

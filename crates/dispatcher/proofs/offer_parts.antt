@@ -1,3 +1,3 @@
--- Laws of the calls.
+-- Laws of the calls: of what is asked before the block, and of what is left then.
 pub mod OfferLaws
-pub mod HeardLaws
+pub mod TakenLaws

@@ -4,7 +4,9 @@
 // bytes of the lent image, too.
 pub mod replies; // the bytes of a reply, and what a decline leaves of it
 pub mod offer_parts; // quote and offer by their parts
+pub mod format_parts; // what is asked of an order by format
 pub mod advance_parts; // advance by its parts
 pub mod open; // dispatcher_open
 pub mod offer; // dispatcher_quote, dispatcher_offer
+pub mod format; // dispatcher_quote_format, dispatcher_offer_format
 pub mod advance; // dispatcher_advance

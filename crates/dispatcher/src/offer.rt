@@ -5,6 +5,7 @@ use super::offer_parts::first_number;
 use super::offer_parts::offered;
 use super::offer_parts::quoted;
 use super::replies::put_decline;
+use admission::block::block_of;
 
 // Whether an order would be accepted, and what the reply would give. Neither a ticket in the reply nor an order block that
 // is a byte short taken meets the promise.
@@ -17,7 +18,7 @@ pub extern "C" fn dispatcher_quote(image: &[u8], order: &[u8], reply: &mut [u8])
         put_decline(reply, number);
         return number;
     }
-    quoted(image, order, reply)
+    quoted(image, block_of(order), reply)
 }
 
 // Takes an order, if every question passes. Neither a decline that writes into the image nor an acceptance that leaves it
@@ -31,5 +32,5 @@ pub extern "C" fn dispatcher_offer(image: &mut [u8], order: &[u8], reply: &mut [
         put_decline(reply, number);
         return number;
     }
-    offered(image, order, reply)
+    offered(image, block_of(order), reply)
 }

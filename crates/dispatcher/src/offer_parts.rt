@@ -1,20 +1,22 @@
-// Quote and offer by their parts: the first five questions, and what is done once they pass. The C interface joins them.
+// Quote and offer by their parts: the first five questions, and what is done with a block once they pass, whether it was lent or
+// stands for an order by format. The C interface joins them.
 ghost use mathlib.Core.Path.{_≡_};
 ghost use mathlib.Core.List.{[], _∷_, _++_};
 ghost use Rattle.model.specs.Questions.{firstNo};
 ghost use Rattle.model.specs.Admission.{blockLengthQuestion};
-ghost use Rattle.model.specs.Calls.{replyQuestion, imageQuestions, offerCall, quoteCall};
+ghost use Rattle.model.specs.Calls.{replyQuestion, imageQuestions};
+ghost use Rattle.image_laws.specs.Usable.{Usable};
 ghost use Rattle.dispatcher.specs.Gives.{Gives};
-ghost use Rattle.dispatcher.specs.Heard.{Heard};
+ghost use Rattle.dispatcher.specs.Taken.{offerTaken, quoteTaken};
 use super::replies::put_reply;
 use admission::acceptance::accept;
-use admission::block::block_of;
 use admission::decision::reply_of;
 use admission::margins::bits;
 use admission::order_questions::offer;
 use image::layout::BLOCK_SIZE;
 use image::layout::NEXT_AT;
 use image::reader::u32_at;
+use model::Block;
 use soundness::questions::Answer;
 
 // Questions 1 to 5, which are asked before anything is read from the order block: 6 to 10 are asked of the block and of figures
@@ -33,12 +35,12 @@ pub fn first_number(image: &[u8], order: &[u8], reply: &[u8]) -> u32
     0
 }
 
-// A quote once these pass. A ticket in the reply does not meet the promise.
-pub fn quoted(image: &[u8], order: &[u8], reply: &mut [u8]) -> u32
-    requires { ⌜ Heard (now image) (now order) (now reply) ⌝ }
-    ensures { λ r. ⌜ Gives (quoteCall (now (image .entry)) (now (order .entry)) (now (reply .entry))) r (now (image .entry)) (now (reply .exit)) ⌝ }
+// A quote of a block, once what is asked before it passes. A ticket in the reply does not meet the promise.
+pub fn quoted(image: &[u8], b: Block, reply: &mut [u8]) -> u32
+    requires { ⌜ Usable (now image) (now reply) ⌝ }
+    ensures { λ r. ⌜ Gives (quoteTaken (now (image .entry)) b (now (reply .entry))) r (now (image .entry)) (now (reply .exit)) ⌝ }
 {
-    let offered = offer(image, block_of(order));
+    let offered = offer(image, b);
     let decision = offered.decision;
     let given = reply_of(decision, 0);
     put_reply(
@@ -51,13 +53,12 @@ pub fn quoted(image: &[u8], order: &[u8], reply: &mut [u8]) -> u32
     given.number
 }
 
-// An offer once these pass. An order that is accepted is written into the image, where it differs. Neither a decline that writes
-// into the image nor an acceptance that leaves it alone meets the promise.
-pub fn offered(image: &mut [u8], order: &[u8], reply: &mut [u8]) -> u32
-    requires { ⌜ Heard (now image) (now order) (now reply) ⌝ }
-    ensures { λ r. ⌜ Gives (offerCall (now (image .entry)) (now (order .entry)) (now (reply .entry))) r (now (image .exit)) (now (reply .exit)) ⌝ }
+// An offer of a block, likewise. An order that is accepted is written into the image, where it differs. Neither a decline that
+// writes into the image nor an acceptance that leaves it alone meets the promise.
+pub fn offered(image: &mut [u8], b: Block, reply: &mut [u8]) -> u32
+    requires { ⌜ Usable (now image) (now reply) ⌝ }
+    ensures { λ r. ⌜ Gives (offerTaken (now (image .entry)) b (now (reply .entry))) r (now (image .exit)) (now (reply .exit)) ⌝ }
 {
-    let b = block_of(order);
     let offered = offer(image, b);
     let decision = offered.decision;
     let given = reply_of(decision, u32_at(image, NEXT_AT));

@@ -61,12 +61,12 @@ formatBlock n f = record { «due_in» = f .dueIn; ranks = upToStation n (λ stat
 
 -- Document 02, (i): "Refused: 19 for another format, 20 for a speed of 0 at a station up to N; both directly after 5, 19 first. A sheet of another length gets 5,
 -- and costs out of range still get 6."
-unfoldable pub formatQuestions : ℕ → FormatOrder → List Question
-formatQuestions n f =
-    (eqb (length (f .sheet)) sheetSize else 5)
-    ∷ (within 1 maxFormat (f .format) else 19)
-    ∷ (all (leb 1) (take n (speeds (f .sheet))) else 20)
+unfoldable pub formatQuestions : (n format : ℕ) → List ℕ → List Question
+formatQuestions n format sheet =
+    (eqb (length sheet) sheetSize else 5)
+    ∷ (within 1 maxFormat format else 19)
+    ∷ (all (leb 1) (take n (speeds sheet)) else 20)
     ∷ []
 
 unfoldable pub formatOrderQuestions : State → FormatOrder → List Question
-formatOrderQuestions s f = let b = formatBlock (s .n) f in formatQuestions (s .n) f ++ blockQuestions (s .n) b ++ stateQuestions s b
+formatOrderQuestions s f = let b = formatBlock (s .n) f in formatQuestions (s .n) (f .format) (f .sheet) ++ blockQuestions (s .n) b ++ stateQuestions s b

@@ -32,7 +32,7 @@ use Rattle.image_laws.proofs.Clauses.{zero-beyond, costs-say}
 use Rattle.image_laws.proofs.Facts.{sound-says}
 use Rattle.image_laws.proofs.Questions.{first-no, four-say}
 use Rattle.call_laws.specs.FormatExact.{Known, Unknown, Readable, Writable, FormatAt, FormatAsBlock}
-use Rattle.call_laws.proofs.offers.Questions.{Decided}
+use Rattle.call_laws.proofs.offers.Questions.{Decided, few-stations}
 use Rattle.call_laws.proofs.formats.Block.{format-costs-eight, format-cost, format-beyond, few-moving, format-read, format-length}
 
 -- A question's "no" gives its number where no question after it does.
@@ -89,7 +89,7 @@ module _ (n : ℕ) (f : FormatOrder) where
     moving-says = first-say (leb 1) (λ v. 1 ≤ v) (leb-says 1) 0 n (speeds (f .sheet)) few
 
     -- 5, 19 and 20.
-    pub three-say : Says (all answer (formatQuestions n f)) (Readable n f)
+    pub three-say : Says (all answer (formatQuestions n (f .format) (f .sheet))) (Readable n f)
     unfolding formatQuestions all answer
     three-say =
         in-words (and-says sheet-says (two-say 19 20 known-says moving-says))
@@ -108,7 +108,7 @@ module _ (n : ℕ) (f : FormatOrder) where
     few : n ≤ maxStations
     few = few-moving n f r
 
-    costs-are : Says (costsInRange n (formatBlock n f .costs)) ((k : ℕ) → 1 ≤ k → k ≤ n → (1 ≤ at 0 (formatBlock n f .costs) k) × (at 0 (formatBlock n f .costs) k ≤ maxCost))
+    pub costs-are : Says (costsInRange n (formatBlock n f .costs)) ((k : ℕ) → 1 ≤ k → k ≤ n → (1 ≤ at 0 (formatBlock n f .costs) k) × (at 0 (formatBlock n f .costs) k ≤ maxCost))
     costs-are = costs-say n (formatBlock n f .costs) (rw (format-costs-eight n f) few)
 
     pub too-dear : (costsInRange n (formatBlock n f .costs) ≡ false) ⇔ ((k : ℕ) × (1 ≤ k) × (k ≤ n) × (maxCost < formatCost f k))
@@ -148,9 +148,8 @@ module _ (image : List ℕ) (f : FormatOrder) (reply : List ℕ) where
   abbrev rest : List Question
   rest = blockQuestions n b ++ stateQuestions (decode image) b
 
-  few-stations : Usable image reply → n ≤ maxStations
-  unfolding stationCountInRange
-  few-stations u = within-says 1 maxStations n .tells (sound-says image .tells (u .image-sound) .n) .1
+  few-here : Usable image reply → n ≤ maxStations
+  few-here u = few-stations image (u .image-sound)
 
   -- The first four, and some after them.
   early-say : {P : Type 0} (more : List Question) → (Usable image reply → Says (all answer more) P) → Says (all answer (four ++ more)) (Usable image reply × P)
@@ -179,7 +178,7 @@ module _ (image : List ℕ) (f : FormatOrder) (reply : List ℕ) where
   nineteen : (formatNumber image f reply ≡ 19) ⇔ (Usable image reply × (length (f .sheet) ≡ sheetSize) × Unknown f)
   unfolding formatNumber formatOrderQuestions four imageQuestions replyQuestion lengthQuestion formatQuestions blockQuestions stateQuestions all gives-other
   nineteen =
-      let first = take 1 (formatQuestions n f) in
+      let first = take 1 (formatQuestions n (f .format) (f .sheet)) in
       let asked = first-no 19 (four ++ first) (drop 1 (formatOrderQuestions (decode image) f)) refl in
       let own = own-no (within 1 maxFormat (f .format)) 19 (drop 2 (formatOrderQuestions (decode image) f)) (omega arith) refl in
       let early = early-say first (λ u. one-says 5 (sheet-says n f)) in
@@ -202,7 +201,7 @@ module _ (image : List ℕ) (f : FormatOrder) (reply : List ℕ) where
   twenty : (formatNumber image f reply ≡ 20) ⇔ (Usable image reply × (length (f .sheet) ≡ sheetSize) × Known f × (k : ℕ) × (1 ≤ k) × (k ≤ n) × (at 0 (speeds (f .sheet)) k ≡ 0))
   unfolding formatNumber formatOrderQuestions four imageQuestions replyQuestion lengthQuestion formatQuestions blockQuestions stateQuestions all gives-other
   twenty =
-      let first = take 2 (formatQuestions n f) in
+      let first = take 2 (formatQuestions n (f .format) (f .sheet)) in
       let asked = first-no 20 (four ++ first) (drop 2 (formatOrderQuestions (decode image) f)) refl in
       let own = own-no (all (leb 1) (take n (speeds (f .sheet)))) 20 (drop 3 (formatOrderQuestions (decode image) f)) (omega arith) refl in
       let early = early-say first (λ u. two-say 5 19 (sheet-says n f) (known-says n f)) in
@@ -212,7 +211,7 @@ module _ (image : List ℕ) (f : FormatOrder) (reply : List ℕ) where
             let p = early .tells (t .0) in
             let w = one-fails (leb 1) n (speeds (f .sheet)) (own .only (t .1)) in
             (p .0, p .1 .0, p .1 .1, w .0, w .1, w .2, omega (arith, leb-false 1 (at 0 (speeds (f .sheet)) (w .0)) (w .3)));
-        if = λ t. asked .if (early .passes (t .0, (t .1, t .2)), own .if (standing (few-stations (t .0)) (t .3) (t .4) (t .5) (t .6)));
+        if = λ t. asked .if (early .passes (t .0, (t .1, t .2)), own .if (standing (few-here (t .0)) (t .3) (t .4) (t .5) (t .6)));
       }
     where
       standing : n ≤ maxStations → (k : ℕ) → 1 ≤ k → k ≤ n → at 0 (speeds (f .sheet)) k ≡ 0 → all (leb 1) (take n (speeds (f .sheet))) ≡ false
@@ -225,9 +224,9 @@ module _ (image : List ℕ) (f : FormatOrder) (reply : List ℕ) where
   six : (formatNumber image f reply ≡ 6) ⇔ (Usable image reply × Readable n f × (k : ℕ) × (1 ≤ k) × (k ≤ n) × (maxCost < formatCost f k))
   unfolding formatNumber formatOrderQuestions four imageQuestions replyQuestion lengthQuestion formatQuestions blockQuestions stateQuestions all gives-other
   six =
-      let asked = first-no 6 (four ++ formatQuestions n f) (drop 3 (formatOrderQuestions (decode image) f)) refl in
+      let asked = first-no 6 (four ++ formatQuestions n (f .format) (f .sheet)) (drop 3 (formatOrderQuestions (decode image) f)) refl in
       let own = own-no (costsInRange n (b .costs) && zeroBeyond n (b .costs) && zeroBeyond n (b .ranks)) 6 (drop 4 (formatOrderQuestions (decode image) f)) (omega arith) refl in
-      let early = early-say (formatQuestions n f) (λ u. three-say n f (few-stations u)) in
+      let early = early-say (formatQuestions n (f .format) (f .sheet)) (λ u. three-say n f (few-here u)) in
       record {
         only = λ e.
             let t = asked .only e in
@@ -241,20 +240,20 @@ module _ (image : List ℕ) (f : FormatOrder) (reply : List ℕ) where
   considered : Decided (formatNumber image f reply) → Writable n f
   unfolding formatNumber formatOrderQuestions four imageQuestions replyQuestion lengthQuestion formatQuestions blockQuestions stateQuestions all gives-other
   considered decided =
-      let more = formatQuestions n f ++ blockQuestions n b in
+      let more = formatQuestions n (f .format) (f .sheet) ++ blockQuestions n b in
       let asked = first-no (formatNumber image f reply) (four ++ more) (stateQuestions (decode image) b) (others decided) .only refl in
       let early = early-say more (λ u. both u) .tells (asked .0) in
       written (early .0) (early .1 .0) (early .1 .1 .0) (early .1 .1 .1)
     where
-      others : {k : ℕ} → Decided k → all (gives-other k) (four ++ formatQuestions n f ++ blockQuestions n b) ≡ true
+      others : {k : ℕ} → Decided k → all (gives-other k) (four ++ formatQuestions n (f .format) (f .sheet) ++ blockQuestions n b) ≡ true
       others (inl e) = rw e
       others (inr (inl e)) = rw e
       others (inr (inr e)) = rw e
 
-      both : Usable image reply → Says (all answer (formatQuestions n f ++ blockQuestions n b)) (Readable n f × ((costsInRange n (b .costs) && zeroBeyond n (b .costs) && zeroBeyond n (b .ranks) ≡ true) × (b .«due_in» ≤ maxDueIn)))
+      both : Usable image reply → Says (all answer (formatQuestions n (f .format) (f .sheet) ++ blockQuestions n b)) (Readable n f × ((costsInRange n (b .costs) && zeroBeyond n (b .costs) && zeroBeyond n (b .ranks) ≡ true) × (b .«due_in» ≤ maxDueIn)))
       both u =
-          let parts = append-says answer (formatQuestions n f) (blockQuestions n b) in
-          let three = three-say n f (few-stations u) in
+          let parts = append-says answer (formatQuestions n (f .format) (f .sheet)) (blockQuestions n b) in
+          let three = three-say n f (few-here u) in
           let two = two-say 6 7 (record { tells = λ e. e; passes = λ e. e }) (leb-says (b .«due_in») maxDueIn) in
           record {
             tells = λ e. let t = parts .tells e in (three .tells (t .0), two .tells (t .1));
@@ -266,7 +265,7 @@ module _ (image : List ℕ) (f : FormatOrder) (reply : List ℕ) where
           record {
             readable = r;
             costs-fit = λ k low high.
-                let few = few-stations u in
+                let few = few-here u in
                 let c = costs-are n f r .tells (sym (block-question n f) ∙ costs) k low high .1 in
                 omega (arith, c, format-cost n f k low high (omega arith));
             due-in-fits = unfold formatBlock in omega (arith, due-in);
@@ -277,7 +276,7 @@ module _ (image : List ℕ) (f : FormatOrder) (reply : List ℕ) where
     same-questions : firstNo (formatOrderQuestions (decode image) f) ≡ firstNo (orderQuestions (decode image) (blockBytes b))
     unfolding formatOrderQuestions orderQuestions blockLengthQuestion firstNo formatQuestions
     same-questions =
-        sym (after (formatQuestions n f) rest (three-say n f (few-moving n f (w .readable)) .passes (w .readable)))
+        sym (after (formatQuestions n (f .format) (f .sheet)) rest (three-say n f (few-moving n f (w .readable)) .passes (w .readable)))
         ∙ rw (eq-eqb (length (blockBytes b)) blockSize (format-length n f w), format-read n f w)
 
     pub same-number : formatNumber image f reply ≡ offerNumber image (blockBytes b) reply

@@ -23,7 +23,7 @@ use Rattle.image_laws.specs.Iff.{_⇔_}
 use Rattle.image_laws.proofs.Tests.{Says, leb-says, ltb-says, eqb-says, and-says, within-says, entries-say}
 use Rattle.image_laws.proofs.Clauses.{zero-beyond, costs-say}
 use Rattle.image_laws.proofs.Facts.{sound-says}
-use Rattle.lists.proofs.Questions.{answer, gives-other}
+use Rattle.lists.proofs.Questions.{answer, gives-other, passed}
 use Rattle.image_laws.proofs.Questions.{first-no}
 use Rattle.call_laws.specs.Considered.{Fitting, Considered}
 
@@ -84,6 +84,19 @@ fitting s b long block due-in due-tick ticket room =
       room = ltb-says (length (s .orders)) maxLive .tells room;
     }
 
+-- Of a block that all of 6 to 12 pass.
+pub block-fits : (s : State) (b : Block) → s .n ≤ length (b .costs) → firstNo (blockQuestions (s .n) b ++ stateQuestions s b) ≡ 0 → Fitting s b
+unfolding all answer gives-other blockQuestions stateQuestions
+block-fits s b long e =
+    let asked = blockQuestions (s .n) b ++ stateQuestions s b in
+    let yes = entries-say answer (λ q. answer q ≡ true) (λ q. record { tells = λ e. e; passes = λ e. e }) (true else 0) refl asked .tells (passed asked refl e) in
+    fitting s b long (yes 0) (yes 1) (yes 2) (yes 3) (yes 4)
+
+-- A sound image has no more stations than there can be.
+pub few-stations : (image : List ℕ) → sound image ≡ true → decode image .n ≤ maxStations
+unfolding stationCountInRange
+few-stations image e = within-says 1 maxStations (decode image .n) .tells (sound-says image .tells e .n) .1
+
 pub eight-ranks : (block : List ℕ) → length (blockOf block .ranks) ≡ maxStations
 unfolding blockOf eightBytes
 eight-ranks block = refl
@@ -96,10 +109,9 @@ module _ (image block reply : List ℕ) where
   questions : List Question
   questions = replyQuestion reply ∷ imageQuestions image ++ orderQuestions (decode image) block
 
-  -- A sound image has no more stations than a block has costs.
+  -- And no more than a block has costs.
   enough-costs : sound image ≡ true → decode image .n ≤ length (blockOf block .costs)
-  unfolding stationCountInRange
-  enough-costs e = rw (eight-costs block) (within-says 1 maxStations (decode image .n) .tells (sound-says image .tells e .n) .1)
+  enough-costs e = rw (eight-costs block) (few-stations image e)
 
   ten-say : Says (all answer (take 10 questions)) (Considered image block reply)
   unfolding all answer questions replyQuestion lengthQuestion imageQuestions blockLengthQuestion blockQuestions stateQuestions orderQuestions
@@ -113,17 +125,17 @@ module _ (image block reply : List ℕ) where
 
       there : all answer (take 10 questions) ≡ true → Considered image block reply
       there e =
-          let passed = entries-say answer (λ q. answer q ≡ true) (λ q. record { tells = λ e. e; passes = λ e. e }) (true else 0) refl (take 10 questions) .tells e in
+          let yes = entries-say answer (λ q. answer q ≡ true) (λ q. record { tells = λ e. e; passes = λ e. e }) (true else 0) refl (take 10 questions) .tells e in
           record {
             usable =
                 record {
-                  reply-whole = eqb-says (length reply) replySize .tells (passed 0);
-                  image-whole = eqb-says (length image) imageSize .tells (passed 1);
-                  image-marked = passed 2;
-                  image-sound = passed 3;
+                  reply-whole = eqb-says (length reply) replySize .tells (yes 0);
+                  image-whole = eqb-says (length image) imageSize .tells (yes 1);
+                  image-marked = yes 2;
+                  image-sound = yes 3;
                 };
-            block-whole = eqb-says (length block) blockSize .tells (passed 4);
-            fitting = fitting s b (enough-costs (passed 3)) (passed 5) (passed 6) (passed 7) (passed 8) (passed 9);
+            block-whole = eqb-says (length block) blockSize .tells (yes 4);
+            fitting = fitting s b (enough-costs (yes 3)) (yes 5) (yes 6) (yes 7) (yes 8) (yes 9);
           }
 
       back : Considered image block reply → all answer (take 10 questions) ≡ true

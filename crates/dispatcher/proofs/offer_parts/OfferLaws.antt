@@ -1,26 +1,27 @@
--- What the first five questions of an offer tell, and the call by its number.
+-- What the questions before the block tell, and the calls by their number.
 use mathlib.Core.Path.{_≡_, refl, sym, _∙_}
-use mathlib.Core.Bool.{Bool, true, false}
+use mathlib.Core.Bool.{true}
 use mathlib.Core.List.{List, [], _∷_, _++_}
 use Prim.Native.Nat.{ℕ, _≤_}
 use native.Mathlib.Omega.{arith}
 use lib.ListN.{length}
 use lib.Dec.{eqb}
 use borrow.Author.Tests.{eq-eqb, ne-eqb, eqb-true}
+use Rattle.model.specs.declared.Block.{Block}
 use Rattle.model.specs.Lists.{all}
-use Rattle.model.specs.Layout.{imageSize, blockSize, replySize}
-use Rattle.model.specs.Image.{marked, decode}
-use Rattle.model.specs.Soundness.{sound}
+use Rattle.model.specs.Layout.{blockSize}
+use Rattle.model.specs.Image.{decode}
 use Rattle.model.specs.Questions.{Question, _else_, firstNo, zeros}
 use Rattle.model.specs.Admission.{blockOf, blockLengthQuestion, blockQuestions, stateQuestions, orderQuestions, offerAnswer, quoteAnswer}
-use Rattle.model.specs.Calls.{replyQuestion, lengthQuestion, imageQuestions, offerNumber, offerCall, quoteCall}
+use Rattle.model.specs.Calls.{replyQuestion, lengthQuestion, imageQuestions, offered, quoted, offerNumber, offerCall, quoteCall}
 use Rattle.lists.proofs.Tests.{and-both, all-append}
-use Rattle.lists.proofs.Questions.{answer, gives-other, decides, passed, after}
+use Rattle.lists.proofs.Questions.{answer, gives-other, decides, passed, after, never}
+use Rattle.image_laws.specs.Usable.{Usable}
 use Rattle.image_laws.proofs.Questions.{four-say}
 use Rattle.dispatcher.specs.Gives.{Gives}
 use Rattle.dispatcher.specs.Declined.{declinedReply}
+use Rattle.dispatcher.specs.Taken.{blockNumber, quoteTaken, offerTaken}
 use Rattle.dispatcher.proofs.replies.Declines.{declines}
-use Rattle.dispatcher.specs.Heard.{Heard}
 
 -- Question 5.
 pub block-no : (block : List ℕ) → (length block ≡ blockSize → ⊥) → 5 ≡ firstNo (blockLengthQuestion block ∷ [])
@@ -31,59 +32,99 @@ pub block-yes : (block : List ℕ) → length block ≡ blockSize → 0 ≡ firs
 unfolding firstNo blockLengthQuestion
 block-yes block h = rw (eq-eqb (length block) blockSize h)
 
-five-most : (a b c d e : Bool) → firstNo ((a else 1) ∷ (b else 2) ∷ (c else 3) ∷ (d else 4) ∷ (e else 5) ∷ []) ≤ 5
-unfolding firstNo
-five-most true true true true true = omega arith
-five-most true true true true false = omega arith
-five-most true true true false e = omega arith
-five-most true true false d e = omega arith
-five-most true false c d e = omega arith
-five-most false b c d e = omega arith
-
-module _ (image block reply : List ℕ) where
+-- ---- questions 1 to 4, and early ones after them, of which none gives 0, 11 or 12
+module _ (image reply : List ℕ) (early : List Question) where
   four : List Question
   four = replyQuestion reply ∷ imageQuestions image
 
-  five : List Question
-  five = replyQuestion reply ∷ imageQuestions image ++ (blockLengthQuestion block ∷ [])
+  pub four-no : (k : ℕ) → k ≡ firstNo (replyQuestion reply ∷ imageQuestions image) → (k ≡ 0 → ⊥) → k ≡ firstNo (replyQuestion reply ∷ imageQuestions image ++ early)
+  unfolding four imageQuestions
+  four-no k e some = decides four early k e some
 
-  -- The first five, as the code asks them.
-  pub four-no : (k : ℕ) → k ≡ firstNo (replyQuestion reply ∷ imageQuestions image) → (k ≡ 0 → ⊥) → k ≡ firstNo (replyQuestion reply ∷ imageQuestions image ++ (blockLengthQuestion block ∷ []))
-  unfolding four five
-  four-no k e some = decides four (blockLengthQuestion block ∷ []) k e some
+  pub four-yes : (k : ℕ) → firstNo (replyQuestion reply ∷ imageQuestions image) ≡ 0 → k ≡ firstNo early → k ≡ firstNo (replyQuestion reply ∷ imageQuestions image ++ early)
+  unfolding four all gives-other replyQuestion imageQuestions lengthQuestion
+  four-yes k zero e = e ∙ after four early (passed four refl zero)
 
-  pub four-yes : (k : ℕ) → firstNo (replyQuestion reply ∷ imageQuestions image) ≡ 0 → k ≡ firstNo (blockLengthQuestion block ∷ []) → k ≡ firstNo (replyQuestion reply ∷ imageQuestions image ++ (blockLengthQuestion block ∷ []))
-  unfolding four five all gives-other replyQuestion imageQuestions lengthQuestion
-  four-yes k zero e = e ∙ after four (blockLengthQuestion block ∷ []) (passed four refl zero)
+  -- All of them pass.
+  module _ (spare : all (gives-other 0) early ≡ true) (zero : firstNo (replyQuestion reply ∷ imageQuestions image ++ early) ≡ 0) where
+    yes : all answer (four ++ early) ≡ true
+    unfolding four all gives-other replyQuestion imageQuestions lengthQuestion
+    yes = passed (four ++ early) spare zero
 
-  pub heard : firstNo (replyQuestion reply ∷ imageQuestions image ++ (blockLengthQuestion block ∷ [])) ≡ 0 → Heard image block reply
-  unfolding four five all answer gives-other replyQuestion imageQuestions lengthQuestion blockLengthQuestion
-  heard e =
-      let parts = and-both (all answer four) (all answer (blockLengthQuestion block ∷ [])) (sym (all-append answer four (blockLengthQuestion block ∷ [])) ∙ passed five refl e) in
-      record {
-        usable = four-say image reply .tells (parts .0);
-        block-whole = eqb-true (length block) blockSize (and-both (eqb (length block) blockSize) true (parts .1) .0);
-      }
+    parts : (all answer four ≡ true) × (all answer early ≡ true)
+    parts = and-both (all answer four) (all answer early) (sym (all-append answer four early) ∙ yes)
 
-  -- The call by its number, where one of the first five says "no".
-  module _ (number : ℕ) (is : number ≡ firstNo (replyQuestion reply ∷ imageQuestions image ++ (blockLengthQuestion block ∷ []))) (some : number ≡ 0 → ⊥) where
-    number-is : number ≡ offerNumber image block reply
-    unfolding five offerNumber imageQuestions orderQuestions
-    number-is = decides five (blockQuestions (decode image .n) (blockOf block) ++ stateQuestions (decode image) (blockOf block)) number is some
+    pub usable : Usable image reply
+    unfolding four
+    usable = four-say image reply .tells (parts .0)
 
-    most : number ≤ 5
-    unfolding replyQuestion imageQuestions lengthQuestion blockLengthQuestion
-    most =
-        rw is (five-most (eqb (length reply) replySize) (eqb (length image) imageSize) (marked image) (sound image) (eqb (length block) blockSize))
+    pub early-pass : all answer early ≡ true
+    early-pass = parts .1
 
-    no-values : offerAnswer number (decode image) (blockOf block) ≡ zeros
-    unfolding offerAnswer
-    no-values = rw (ne-eqb number 0 some, ne-eqb number 11 (λ e. omega (arith, most, e)), ne-eqb number 12 (λ e. omega (arith, most, e)))
+    pub left-to : (rest : List Question) → firstNo rest ≡ firstNo (replyQuestion reply ∷ imageQuestions image ++ early ++ rest)
+    unfolding four imageQuestions
+    left-to rest = after (four ++ early) rest yes
 
+  -- One of them says "no": nothing is written but the number and zeros.
+  module _ (not-11 : all (gives-other 11) early ≡ true) (not-12 : all (gives-other 12) early ≡ true) (b : Block) (rest : List Question) (number : ℕ) (is : number ≡ firstNo (replyQuestion reply ∷ imageQuestions image ++ early)) (some : number ≡ 0 → ⊥) where
+    number-is : number ≡ firstNo (replyQuestion reply ∷ imageQuestions image ++ early ++ rest)
+    unfolding four imageQuestions
+    number-is = decides (four ++ early) rest number is some
+
+    other-than : (k : ℕ) → 1 ≤ k → all (gives-other k) (four ++ early) ≡ true → number ≡ k → ⊥
+    unfolding four imageQuestions
+    other-than k low others e = let z = never k (four ++ early) others (sym is ∙ e) in omega arith
+
+    no-values : offerAnswer number (decode image) b ≡ zeros
+    unfolding offerAnswer four all gives-other replyQuestion imageQuestions lengthQuestion
+    no-values = rw (ne-eqb number 0 some, ne-eqb number 11 (other-than 11 (omega arith) not-11), ne-eqb number 12 (other-than 12 (omega arith) not-12))
+
+    pub offered-declined : Gives (offered (firstNo (replyQuestion reply ∷ imageQuestions image ++ early ++ rest)) image b reply) number image (declinedReply number reply)
+    offered-declined = rw (← number-is) (declines number _ image _ reply some no-values)
+
+    pub quoted-declined : Gives (quoted (firstNo (replyQuestion reply ∷ imageQuestions image ++ early ++ rest)) image b reply) number image (declinedReply number reply)
+    unfolding quoteAnswer
+    quoted-declined = rw (← number-is) (declines number _ image _ reply some (rw no-values))
+
+-- Questions 1 to 4 alone.
+pub four-usable : (image reply : List ℕ) → firstNo (replyQuestion reply ∷ imageQuestions image) ≡ 0 → Usable image reply
+unfolding all imageQuestions
+four-usable image reply zero = usable image reply [] refl zero
+
+-- ---- a block that is lent
+module _ (image block reply : List ℕ) where
+  abbrev early : List Question
+  early = blockLengthQuestion block ∷ []
+
+  abbrev rest : List Question
+  rest = blockQuestions (decode image .n) (blockOf block) ++ stateQuestions (decode image) (blockOf block)
+
+  module _ (zero : firstNo (replyQuestion reply ∷ imageQuestions image ++ early) ≡ 0) where
+    pub block-usable : Usable image reply
+    unfolding all gives-other blockLengthQuestion
+    block-usable = usable image reply early refl zero
+
+    pub block-whole : length block ≡ blockSize
+    unfolding all answer gives-other blockLengthQuestion
+    block-whole = eqb-true (length block) blockSize (and-both (eqb (length block) blockSize) true (early-pass image reply early refl zero) .0)
+
+    asked : blockNumber image (blockOf block) ≡ offerNumber image block reply
+    unfolding offerNumber orderQuestions imageQuestions blockLengthQuestion all gives-other
+    asked = left-to image reply early refl zero rest
+
+    pub offer-taken : offerTaken image (blockOf block) reply ≡ offerCall image block reply
+    unfolding offerTaken offerCall
+    offer-taken = rw asked
+
+    pub quote-taken : quoteTaken image (blockOf block) reply ≡ quoteCall image block reply
+    unfolding quoteTaken quoteCall
+    quote-taken = rw asked
+
+  module _ (number : ℕ) (is : number ≡ firstNo (replyQuestion reply ∷ imageQuestions image ++ early)) (some : number ≡ 0 → ⊥) where
     pub offer-declined : Gives (offerCall image block reply) number image (declinedReply number reply)
-    unfolding offerCall
-    offer-declined = rw (← number-is) (declines number _ image _ reply some no-values)
+    unfolding offerCall offerNumber orderQuestions imageQuestions blockLengthQuestion all gives-other
+    offer-declined = offered-declined image reply early refl refl (blockOf block) rest number is some
 
     pub quote-declined : Gives (quoteCall image block reply) number image (declinedReply number reply)
-    unfolding quoteCall quoteAnswer
-    quote-declined = rw (← number-is) (declines number _ image _ reply some (rw no-values))
+    unfolding quoteCall offerNumber orderQuestions imageQuestions blockLengthQuestion all gives-other
+    quote-declined = quoted-declined image reply early refl refl (blockOf block) rest number is some

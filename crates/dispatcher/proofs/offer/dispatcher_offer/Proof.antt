@@ -1,8 +1,12 @@
 -- As a quote, by the offer's call.
-use mathlib.Core.Path.{sym, _∙_}
+use mathlib.Core.Path.{_≡_, sym, _∙_}
+use mathlib.Core.List.{[], _∷_, _++_}
 use borrow.Author.Needs.{needs}
+use Rattle.model.specs.Questions.{firstNo}
+use Rattle.model.specs.Admission.{blockLengthQuestion}
+use Rattle.model.specs.Calls.{replyQuestion, imageQuestions}
 use Rattle.image_laws.proofs.Questions.{replied}
-use Rattle.dispatcher.proofs.offer_parts.OfferLaws.{heard, offer-declined}
+use Rattle.dispatcher.proofs.offer_parts.OfferLaws.{block-usable, block-whole, offer-taken, offer-declined}
 use Rattle.dispatcher.proofs.offer.dispatcher_offer.Statement.{statement}
 use Rattle.dispatcher.proofs.offer.dispatcher_offer.Tie as tie
 
@@ -26,8 +30,15 @@ returns c =
     let number = then .before in
     rw (c .before .before .put-decline .ensures) (offer-declined _ _ _ (number .first-number .result) (number .first-number .ensures) (then .if1 .taken))
 
+-- With none of them the block decides.
+all-pass : (c : tie.Else1) → let top = c .before .before .before .before .before .before .before in firstNo (replyQuestion (top .args .reply .now) ∷ imageQuestions (top .args .image .now) ++ (blockLengthQuestion (top .args .order .now) ∷ [])) ≡ 0
+all-pass c = sym (c .before .first-number .ensures) ∙ c .if1 .left
+
+block-of-requires : tie.Need-block-of-requires
+block-of-requires c κs = block-whole _ _ _ (all-pass (c .before))
+
 offered-requires : tie.Need-offered-requires
-offered-requires c κs = heard _ _ _ (sym (c .before .before .before .first-number .ensures) ∙ c .before .before .if1 .left)
+offered-requires c κs = block-usable _ _ _ (all-pass (c .before .before .before))
 
 same-length-3 : tie.Need-same-length-3
 same-length-3 c = search needs
@@ -36,7 +47,10 @@ same-length-4 : tie.Need-same-length-4
 same-length-4 c = search needs
 
 returns-2 : tie.Need-returns-2
-returns-2 c = search needs
+returns-2 c =
+    let offered = c .before .before .before .before in
+    let block = offered .before .before in
+    rw (← offer-taken _ _ _ (all-pass (block .before .before)), ← block .block-of .ensures) (offered .offered .ensures)
 
 pub dispatcher-offer-spec : {M : Type 1} → statement M
 dispatcher-offer-spec =
@@ -47,6 +61,7 @@ dispatcher-offer-spec =
     same-length
     same-length-2
     returns
+    block-of-requires
     offered-requires
     same-length-3
     same-length-4

@@ -1,21 +1,15 @@
 -- As a quote, with the ticket; and where the number is 0, the order is written into the image.
 use mathlib.Core.Path.{_≡_, sym, ap, _∙_}
+use lib.ListN.{length}
 use mir.Syntax.{w32}
 use mir.Facts.{toZ-ofZ}
 use borrow.Author.Needs.{needs}
-use Rattle.model.specs.Image.{decode}
-use Rattle.model.specs.Admission.{blockOf}
 use Rattle.image_laws.proofs.Read.{decode-next}
 use Rattle.admission.specs.declared.decision.Reply.{Reply}
 use Rattle.admission.specs.Decision.{numberOf}
-use Rattle.admission.specs.OrderQuestions.{Answers}
-use Rattle.dispatcher.specs.Heard.{Heard}
-use Rattle.dispatcher.proofs.offer_parts.HeardLaws.{offer-declined, offer-done, acceptable}
+use Rattle.dispatcher.proofs.offer_parts.TakenLaws.{offer-declined, offer-done, acceptable}
 use Rattle.dispatcher.proofs.offer_parts.offered.Statement.{statement}
 use Rattle.dispatcher.proofs.offer_parts.offered.Tie as tie
-
-block-of-requires : tie.Need-block-of-requires
-block-of-requires c κs = search needs
 
 offer-requires : tie.Need-offer-requires
 offer-requires c κs = search needs
@@ -32,23 +26,20 @@ bits-requires c κs = search needs
 put-reply-requires : tie.Need-put-reply-requires
 put-reply-requires c κs = search needs
 
-heard-of : (c : tie.After-offer) → let top = c .before .before .before .before .before .before in Heard (top .args .image .now) (top .args .order .now) (top .args .reply .now)
-heard-of c = c .before .before .before .before .before .before .pre
-
--- The answer, about the order that the bytes say.
-says : (c : tie.After-offer) → let top = c .before .before .before .before .before .before in Answers (decode (top .args .image .now)) (blockOf (top .args .order .now)) (c .offer .result)
-says c = rw (c .before .before .block-of .ensures) at (c .offer .ensures)
-
 -- The number in the reply is that of the answer.
 number-is : (c : tie.After-reply-of) → c .reply-of .result .number ≡ numberOf (c .before .before .before .offer .result .decision)
 number-is c = ap (λ (r : Reply). r .number) (c .reply-of .ensures)
+
+eight-costs : (c : tie.Start) → length (c .args .b .costs) ≡ 8
+eight-costs c = search needs
 
 accept-requires : tie.Need-accept-requires
 accept-requires c κs =
     let then = c .before .before in
     let reply-of = then .before .before .before .before .before .before .before .before in
     let answer = reply-of .before .before .before in
-    acceptable _ _ _ (heard-of answer) (says answer) (sym (number-is reply-of) ∙ then .if1 .taken) (answer .before .before .block-of .ensures)
+    let top = answer .before .before .before .before in
+    acceptable _ _ _ (top .pre) (eight-costs top) (answer .offer .ensures) (sym (number-is reply-of) ∙ then .if1 .taken)
 
 same-length : tie.Need-same-length
 same-length c = search needs
@@ -64,8 +55,8 @@ returns c =
     let told = put .before .before in
     let reply-of = told .before .before in
     let answer = reply-of .before .before .before in
-    rw (accept .accept .ensures, answer .before .before .block-of .ensures, put .put-reply .ensures, put .before .bits .ensures, toZ-ofZ {w = w32} (record { sfits = told .struct-told .given .1 .1 .1 .0 .1 }), reply-of .reply-of .ensures, reply-of .before .u32-at .ensures, decode-next _)
-    (offer-done _ _ _ (heard-of answer) (answer .offer .result .decision) (says answer .decides) (sym (number-is reply-of) ∙ then .if1 .taken))
+    rw (accept .accept .ensures, put .put-reply .ensures, put .before .bits .ensures, toZ-ofZ {w = w32} (record { sfits = told .struct-told .given .1 .1 .1 .0 .1 }), reply-of .reply-of .ensures, reply-of .before .u32-at .ensures, decode-next _)
+    (offer-done _ _ _ (answer .offer .result .decision) (answer .offer .ensures .decides) (sym (number-is reply-of) ∙ then .if1 .taken))
 
 same-length-3 : tie.Need-same-length-3
 same-length-3 c = search needs
@@ -80,13 +71,12 @@ returns-2 c =
     let reply-of = told .before .before in
     let answer = reply-of .before .before .before in
     rw (put .put-reply .ensures, put .before .bits .ensures, toZ-ofZ {w = w32} (record { sfits = told .struct-told .given .1 .1 .1 .0 .1 }), reply-of .reply-of .ensures, reply-of .before .u32-at .ensures, decode-next _)
-    (offer-declined _ _ _ (heard-of answer) (answer .offer .result .decision) (says answer .decides) (λ e. c .if1 .left (number-is reply-of ∙ e)))
+    (offer-declined _ _ _ (answer .offer .result .decision) (answer .offer .ensures .decides) (λ e. c .if1 .left (number-is reply-of ∙ e)))
 
 pub offered-spec : {M : Type 1} → statement M
 offered-spec =
     tie.close
     (tie.spec
-    block-of-requires
     offer-requires
     u32-at-requires
     reply-of-requires

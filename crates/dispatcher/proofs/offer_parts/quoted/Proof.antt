@@ -2,12 +2,9 @@
 use mir.Syntax.{w32}
 use mir.Facts.{toZ-ofZ}
 use borrow.Author.Needs.{needs}
-use Rattle.dispatcher.proofs.offer_parts.HeardLaws.{quote-gives}
+use Rattle.dispatcher.proofs.offer_parts.TakenLaws.{quote-gives}
 use Rattle.dispatcher.proofs.offer_parts.quoted.Statement.{statement}
 use Rattle.dispatcher.proofs.offer_parts.quoted.Tie as tie
-
-block-of-requires : tie.Need-block-of-requires
-block-of-requires c κs = search needs
 
 offer-requires : tie.Need-offer-requires
 offer-requires c κs = search needs
@@ -30,9 +27,8 @@ returns c =
     let told = put .before .before in
     let reply-of = told .before .before in
     let answer = reply-of .before in
-    let says = rw (answer .before .block-of .ensures) at (answer .offer .ensures) in
     rw (put .put-reply .ensures, put .before .bits .ensures, toZ-ofZ {w = w32} (record { sfits = told .struct-told .given .1 .1 .1 .0 .1 }), reply-of .reply-of .ensures)
-    (quote-gives _ _ _ (answer .before .before .before .before .before .pre) (answer .offer .result .decision) (says .decides))
+    (quote-gives _ _ _ (answer .offer .result .decision) (answer .offer .ensures .decides))
 
 pub quoted-spec : {M : Type 1} → statement M
-quoted-spec = tie.close (tie.spec block-of-requires offer-requires reply-of-requires bits-requires put-reply-requires same-length returns)
+quoted-spec = tie.close (tie.spec offer-requires reply-of-requires bits-requires put-reply-requires same-length returns)

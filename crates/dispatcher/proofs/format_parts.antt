@@ -1,0 +1,3 @@
+-- Laws of the calls by paper format.
+pub mod SheetLaws
+pub mod HeldLaws
