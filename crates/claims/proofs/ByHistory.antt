@@ -17,11 +17,12 @@ use Rattle.model.specs.Lists.{part, within, all}
 use Rattle.model.specs.Bytes.{word, fourBytes, bits32}
 use Rattle.model.specs.State.{State}
 use Rattle.model.specs.DelayBound.{boundTick}
-use Rattle.model.specs.Layout.{imageSize, replyTickAt, replyMarginAt}
+use Rattle.model.specs.Layout.{imageSize, blockSize, replyTickAt, replyMarginAt}
 use Rattle.model.specs.Image.{decode}
 use Rattle.model.specs.Questions.{Question, _else_, firstNo, Answer, replyBytes}
 use Rattle.model.specs.Admission.{blockOf, dueOf, arrival, joinedBy, joinedLive, smallestMargin, blockLengthQuestion, blockQuestions, stateQuestions, orderQuestions, offerAnswer, quoteAnswer}
-use Rattle.model.specs.Calls.{Result, result, replyQuestion, lengthQuestion, openNumber, openCall, offerNumber, offerCall, quoteCall, advanceNumber, advanceCall, Call, opening, quoting, offering, advancing, perform}
+use Rattle.model.specs.Formats.{FormatOrder, formatBlock, formatQuestions, formatOrderQuestions}
+use Rattle.model.specs.Calls.{Result, result, replyQuestion, lengthQuestion, openNumber, openCall, offerNumber, offerCall, quoteCall, formatNumber, offerFormatCall, quoteFormatCall, advanceNumber, advanceCall, Call, opening, quoting, offering, quotingFormat, offeringFormat, advancing, perform}
 use Rattle.model.specs.History.{Entry, History, liveOrders, entryDue, entryBound, entering, acceptIn}
 use Rattle.model.specs.StateOf.{recordOf, stateOf}
 use Rattle.model.specs.Runs.{Lent, Run, started, outcome, afterAll}
@@ -34,15 +35,18 @@ use Rattle.call_laws.specs.Considered as asked
 use Rattle.image_laws.specs.Iff.{_⇔_}
 use Rattle.call_laws.specs.OfferExact.{InTime}
 use Rattle.call_laws.specs.OfferExact as state
+use Rattle.call_laws.specs.FormatExact.{FormatAt}
 use Rattle.call_laws.proofs.offers.Questions.{Decided}
 use Rattle.call_laws.proofs.offers.Questions as questions
 use Rattle.call_laws.proofs.offers.Margins.{smallest-margin}
 use Rattle.call_laws.proofs.offers.Exact.{margin-near, exact}
 use Rattle.call_laws.proofs.advances.Exact.{advance-numbers}
 use Rattle.claims.specs.ByHistory.{tried, arriving, OnTime, Late, marginOf, Considered, Smallest, Judged, InStep, ByHistory}
-use Rattle.claims.proofs.Invariant.{Invariant, whole, usable, says, offer-asks, advance-asks, invariant-started, invariant-all}
+use Rattle.claims.proofs.Invariant.{Invariant, whole, usable, says, offer-asks, format-asks, advance-asks, invariant-started, invariant-all}
 use Rattle.claims.proofs.Replies.{reply-tick}
+use Rattle.call_laws.proofs.formats.Exact.{format-as-block}
 use Rattle.claims.proofs.Demand3.{due-last, ahead}
+use Rattle.claims.proofs.ByFormat.{judged-by-format}
 
 -- ---- numbers that are never given
 -- A question that passes, or whose number is another.
@@ -92,6 +96,13 @@ module _ (run : Run) (kept : Invariant run) where
   offer-spares (inr (inr (inl e))) block reply = rw e
   offer-spares (inr (inr (inr e))) block reply = rw (e, le-leb 1 (stateOf h .next) next-left)
 
+  format-spares : {k : ℕ} → Spared k → (f : FormatOrder) (reply : List ℕ) → all (spares k) (replyQuestion reply ∷ formatOrderQuestions (stateOf h) f) ≡ true
+  unfolding all spares replyQuestion formatOrderQuestions formatQuestions blockQuestions stateQuestions
+  format-spares (inl e) f reply = rw e
+  format-spares (inr (inl e)) f reply = rw e
+  format-spares (inr (inr (inl e))) f reply = rw e
+  format-spares (inr (inr (inr e))) f reply = rw (e, le-leb 1 (stateOf h .next) next-left)
+
   advance-spares : {k : ℕ} → Spared k → (reply : List ℕ) → all (spares k) (replyQuestion reply ∷ (ltb (stateOf h .clock) lastTick else 13) ∷ []) ≡ true
   unfolding all spares replyQuestion
   advance-spares (inl e) reply = rw e
@@ -102,6 +113,9 @@ module _ (run : Run) (kept : Invariant run) where
   never-offer : (k : ℕ) → Spared k → (block reply : List ℕ) → offerNumber (run .image) block reply ≢ k
   never-offer k spared block reply e = never k (spared-low spared) (replyQuestion reply ∷ orderQuestions (stateOf h) block) (offer-spares spared block reply) (sym (offer-asks run kept block reply) ∙ e)
 
+  never-format : (k : ℕ) → Spared k → (f : FormatOrder) (reply : List ℕ) → formatNumber (run .image) f reply ≢ k
+  never-format k spared f reply e = never k (spared-low spared) (replyQuestion reply ∷ formatOrderQuestions (stateOf h) f) (format-spares spared f reply) (sym (format-asks run kept f reply) ∙ e)
+
   never-advance : (k : ℕ) → Spared k → (reply : List ℕ) → advanceNumber (run .image) reply ≢ k
   never-advance k spared reply e = never k (spared-low spared) (replyQuestion reply ∷ (ltb (stateOf h .clock) lastTick else 13) ∷ []) (advance-spares spared reply) (sym (advance-asks run kept reply) ∙ e)
 
@@ -110,6 +124,8 @@ module _ (run : Run) (kept : Invariant run) where
   nevers k spared (opening n) reply = unfold openCall result openNumber in never k (spared-low spared) (replyQuestion reply ∷ lengthQuestion (run .image) ∷ (within 1 maxStations n else 14) ∷ []) (open-spares spared n reply)
   nevers k spared (quoting block) reply = unfold quoteCall result in never-offer k spared block reply
   nevers k spared (offering block) reply = unfold offerCall result in never-offer k spared block reply
+  nevers k spared (quotingFormat f) reply = unfold quoteFormatCall result in never-format k spared f reply
+  nevers k spared (offeringFormat f) reply = unfold offerFormatCall result in never-format k spared f reply
   nevers k spared advancing reply = unfold advanceCall result in never-advance k spared reply
 
   never-given : (k : ℕ) → Spared k → (lent : Lent) → outcome run lent .number ≢ k
@@ -128,9 +144,12 @@ module _ (run : Run) (kept : Invariant run) (block reply : List ℕ) where
   abbrev b : Block
   b = blockOf block
 
+  abbrev Given : Type 0
+  Given = length block ≡ blockSize
+
   -- The history, the state that it stands for, and the history with the arrival accepted.
   abbrev then : History
-  then = tried (run .history) block
+  then = tried (run .history) b
 
   abbrev s : State
   s = stateOf (run .history)
@@ -160,17 +179,17 @@ module _ (run : Run) (kept : Invariant run) (block reply : List ℕ) where
   unfolding stateOf
   record-in e m = subst (λ (l : List Order). recordOf then e ∈ l) accepted-are (Memᴰ·map (recordOf then) m)
 
-  arrival-record : recordOf then (arriving (run .history) block) ≡ arrival s b
+  arrival-record : recordOf then (arriving (run .history) b) ≡ arrival s b
   arrival-record = record-new b (run .history) (kept .history .filed)
 
   -- What is asked before 11, of the image and of the history.
-  considered : asked.Considered (run .image) block reply → Considered (run .history) block reply
+  considered : asked.Considered (run .image) block reply → Considered Given (run .history) b reply
   unfolding stateOf
   considered c =
       let f : asked.Fitting s b = subst (λ (x : State). asked.Fitting x b) (says run kept) (c .fitting) in
       record {
         reply-whole = c .usable .reply-whole;
-        block-whole = c .block-whole;
+        given = c .block-whole;
         cost-low = f .cost-low;
         cost-high = f .cost-high;
         cost-beyond = f .cost-beyond;
@@ -180,7 +199,7 @@ module _ (run : Run) (kept : Invariant run) (block reply : List ℕ) where
         room = omega (arith, f .room, length-map (liveOrders (run .history)) (recordOf (run .history)));
       }
 
-  fitting : Considered (run .history) block reply → asked.Fitting s b
+  fitting : Considered Given (run .history) b reply → asked.Fitting s b
   unfolding stateOf
   fitting c =
       record {
@@ -194,11 +213,11 @@ module _ (run : Run) (kept : Invariant run) (block reply : List ℕ) where
         room = omega (arith, c .room, length-map (liveOrders (run .history)) (recordOf (run .history)));
       }
 
-  reconsidered : Considered (run .history) block reply → asked.Considered (run .image) block reply
+  reconsidered : Considered Given (run .history) b reply → asked.Considered (run .image) block reply
   reconsidered c =
       record {
         usable = usable run kept reply (c .reply-whole);
-        block-whole = c .block-whole;
+        block-whole = c .given;
         fitting = subst (λ (x : State). asked.Fitting x b) (sym (says run kept)) (fitting c);
       }
 
@@ -223,7 +242,7 @@ module _ (run : Run) (kept : Invariant run) (block reply : List ℕ) where
   each-in-time : ((e : Entry) → e ∈ liveOrders then → OnTime then e) → (o : Order) → o ∈ acceptNext (length (run .history .orders) + 2) s b .orders → InTime (s .n) o
   each-in-time all o m = let w = entry-of o m in subst (InTime (s .n)) (w .2) (in-time (w .0) (all (w .0) (w .1)))
 
-  done-by : (offerNumber (run .image) block reply ≡ 0) ⇔ (Considered (run .history) block reply × ((e : Entry) → e ∈ liveOrders then → OnTime then e))
+  done-by : (offerNumber (run .image) block reply ≡ 0) ⇔ (Considered Given (run .history) b reply × ((e : Entry) → e ∈ liveOrders then → OnTime then e))
   done-by =
       record {
         only = λ e. let t = by-state .0 .only e in (considered (t .0), all-on-time (t .1) (t .2));
@@ -241,16 +260,16 @@ module _ (run : Run) (kept : Invariant run) (block reply : List ℕ) where
   too-late e h = h
 
   abbrev new-entry : Entry
-  new-entry = arriving (run .history) block
+  new-entry = arriving (run .history) b
 
-  late-by : (offerNumber (run .image) block reply ≡ 11) ⇔ (Considered (run .history) block reply × Late then new-entry)
+  late-by : (offerNumber (run .image) block reply ≡ 11) ⇔ (Considered Given (run .history) b reply × Late then new-entry)
   late-by =
       record {
         only = λ e. let t = by-state .1 .only e in (considered (t .0), late new-entry (subst (state.Late (s .n)) (sym arrival-record) (t .1)));
         if = λ t. by-state .1 .if (reconsidered (t .0), subst (state.Late (s .n)) arrival-record (too-late new-entry (t .1)));
       }
 
-  delaying-by : (offerNumber (run .image) block reply ≡ 12) ⇔ (Considered (run .history) block reply × OnTime then new-entry × (e : Entry) × (e ∈ liveOrders then) × Late then e)
+  delaying-by : (offerNumber (run .image) block reply ≡ 12) ⇔ (Considered Given (run .history) b reply × OnTime then new-entry × (e : Entry) × (e ∈ liveOrders then) × Late then e)
   delaying-by =
       record {
         only = λ e.
@@ -345,17 +364,37 @@ module _ (run : Run) (kept : Invariant run) (block reply : List ℕ) where
             signed32 = rw margin-smallest (margin-near s b (kept .is-sound .facts) (fitting (considered (questions.considered (run .image) block reply decided))));
           }
 
-    judged : Judged (run .history) block reply given
+    judged : Judged Given (run .history) b reply given
     unfolding result
     judged = record { done = done-by; late = late-by; delaying = delaying-by; tick = tick-by; margin = margin-by }
+
+module _ (run : Run) (kept : Invariant run) where
+  quoted : (block reply : List ℕ) → Judged (length block ≡ blockSize) (run .history) (blockOf block) reply (quoteCall (run .image) block reply)
+  unfolding quoteCall quoteAnswer
+  quoted block reply = judged run kept block reply _ refl refl (run .image)
+
+  offered : (block reply : List ℕ) → Judged (length block ≡ blockSize) (run .history) (blockOf block) reply (offerCall (run .image) block reply)
+  unfolding offerCall
+  offered block reply = judged run kept block reply _ refl refl _
+
+  -- By format, at the history's own N.
+  by-format : (f : FormatOrder) (reply : List ℕ) → FormatAt (run .image) f reply (run .history .n)
+  unfolding stateOf
+  by-format f reply = subst (λ (s : State). FormatAt (run .image) f reply (s .n)) (says run kept) (format-as-block (run .image) f reply)
 
 pub in-step : (run : Run) → Invariant run → InStep run
 in-step run kept =
     record {
       image-is = kept .image-is;
       read-back = says run kept;
-      quotes = λ block reply. unfold quoteCall quoteAnswer in judged run kept block reply _ refl refl (run .image);
-      offers = λ block reply. unfold offerCall in judged run kept block reply _ refl refl _;
+      quotes = quoted run kept;
+      offers = offered run kept;
+      format-quotes = λ f reply.
+          let by = by-format run kept f reply in
+          judged-by-format (run .history) f reply (quoteFormatCall (run .image) f reply) _ (quoted run kept _ reply) (unfold quoteFormatCall result in by .considered) (by .quotes-as-block);
+      format-offers = λ f reply.
+          let by = by-format run kept f reply in
+          judged-by-format (run .history) f reply (offerFormatCall (run .image) f reply) _ (offered run kept _ reply) (unfold offerFormatCall result in by .considered) (by .offers-as-block);
       never-2 = never-given run kept 2 (inl refl);
       never-3 = never-given run kept 3 (inr (inl refl));
       never-4 = never-given run kept 4 (inr (inr (inl refl)));

@@ -1,10 +1,12 @@
 -- All claims, each from where it is proved.
+use Rattle.model.proofs.FormatCases.{both-series-halve}
 use Rattle.plan_model.proofs.Meaning.{meaning}
 use Rattle.plan_model.proofs.Cases.{chapter-six-holds, largest-response-holds}
 use Rattle.plan_model.proofs.Leaves.{leaves, not-read}
 use Rattle.call_laws.proofs.opens.Exact.{opens-fresh}
 use Rattle.call_laws.proofs.offers.Exact.{exact}
-use Rattle.call_laws.proofs.offers.Kept.{offer-keeps-sound, quote-gives-offer}
+use Rattle.call_laws.proofs.offers.Kept.{offer-keeps-sound, quote-gives-offer, format-quote-gives-offer}
+use Rattle.call_laws.proofs.formats.Exact.{format-as-block}
 use Rattle.call_laws.proofs.advances.Exact.{advance-numbers}
 use Rattle.call_laws.proofs.advances.Kept.{advance-keeps-sound}
 use Rattle.claims.specs.Images.{TicksAsAsked, Timely, ServedInFull}
@@ -24,6 +26,9 @@ claims =
       exact = exact;
       by-history = by-history;
       quote-gives-offer = quote-gives-offer;
+      format-as-block = format-as-block;
+      format-quote-gives-offer = format-quote-gives-offer;
+      long-sides = both-series-halve;
       ticks = ticks;
       ticks-over-runs = after-every-list TicksAsAsked ticks-of;
       timely = timely;

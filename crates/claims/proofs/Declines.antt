@@ -11,7 +11,8 @@ use Rattle.model.specs.State.{State}
 use Rattle.model.specs.Questions.{Answer, replyBytes, zeros}
 use Rattle.model.specs.Image.{decode}
 use Rattle.model.specs.Admission.{blockOf, offerAnswer, quoteAnswer}
-use Rattle.model.specs.Calls.{result, openNumber, openCall, offerNumber, offerCall, quoteCall, advanceNumber, advanceAnswer, advanceCall, opening, quoting, offering, advancing, perform}
+use Rattle.model.specs.Formats.{formatBlock}
+use Rattle.model.specs.Calls.{result, openNumber, openCall, offerNumber, offerCall, quoteCall, formatNumber, offerFormatCall, quoteFormatCall, advanceNumber, advanceAnswer, advanceCall, opening, quoting, offering, quotingFormat, offeringFormat, advancing, perform}
 use Rattle.schedule.proofs.Laws.{by-cond}
 use Rattle.claims.specs.Declines.{DeclinedAt, Declines}
 
@@ -56,7 +57,7 @@ unfolding advanceAnswer
 advanced number s other = rw (ne-eqb number 0 other) (plain number)
 
 pub declines : Declines
-unfolding perform openCall quoteCall offerCall advanceCall
+unfolding perform openCall quoteCall offerCall quoteFormatCall offerFormatCall advanceCall
 declines (opening n) image reply other = declined (openNumber image n reply) zeros image _ reply (unfold result in other) (plain _)
 declines (quoting block) image reply other =
     let number = offerNumber image block reply in
@@ -66,6 +67,14 @@ declines (offering block) image reply other =
     let number = offerNumber image block reply in
     let o : number ≢ 0 = unfold result in other in
     declined number _ image _ reply o (late-only number (decode image) (blockOf block) o)
+declines (quotingFormat f) image reply other =
+    let number = formatNumber image f reply in
+    let o : number ≢ 0 = unfold result in other in
+    declined number _ image _ reply o (quoted number (decode image) (formatBlock (decode image .n) f) o)
+declines (offeringFormat f) image reply other =
+    let number = formatNumber image f reply in
+    let o : number ≢ 0 = unfold result in other in
+    declined number _ image _ reply o (late-only number (decode image) (formatBlock (decode image .n) f) o)
 declines advancing image reply other =
     let number = advanceNumber image reply in
     let o : number ≢ 0 = unfold result in other in

@@ -1,5 +1,6 @@
 -- Demand 3: the invariant gives what is said of each accepted order and of each reply, call by call.
 use mathlib.Core.Path.{_≡_, sym, ap, subst, _∙_}
+use mathlib.Core.Logic.{inl}
 use mathlib.Core.List.{List, [], _∷_}
 use mathlib.Core.Option.{none}
 use Prim.Native.Nat.{ℕ, _+_, _≤_, _<_}
@@ -12,7 +13,8 @@ use Rattle.model.specs.Tick.{advanceOut}
 use Rattle.model.specs.Layout.{replySize, replyTicketAt, replyTickAt}
 use Rattle.model.specs.Image.{decode}
 use Rattle.model.specs.Admission.{blockOf, offerAnswer}
-use Rattle.model.specs.Calls.{result, offerNumber, offerCall, advanceNumber, advanceCall, Call, opening, quoting, offering, advancing, perform}
+use Rattle.model.specs.Formats.{FormatOrder, formatBlock}
+use Rattle.model.specs.Calls.{result, offerNumber, offerCall, formatNumber, offerFormatCall, advanceNumber, advanceCall, Call, opening, quoting, offering, quotingFormat, offeringFormat, advancing, perform}
 use Rattle.model.specs.History.{Entry, History, entryDue, entryBound, acceptIn, advanceIn, feed, outAt}
 use Rattle.model.specs.StateOf.{recordOf, stateOf}
 use Rattle.model.specs.Runs.{Lent, Run, started, outcome, afterCall, afterAll, AllAllowed}
@@ -21,11 +23,12 @@ use Rattle.delay.proofs.Book.{length-accept}
 use Rattle.delay.proofs.DueTimes.{live-record, none-live, kept-live}
 use Rattle.image_laws.specs.InRange.{wordLimit}
 use Rattle.image_laws.specs.SoundFacts.{SoundInRange}
+use Rattle.call_laws.proofs.offers.Questions.{Decided}
 use Rattle.call_laws.proofs.advances.Exact.{advance-numbers}
 use Rattle.claims.specs.Demand3.{InTime, Agrees, AllAgree, Demand3}
 use Rattle.claims.proofs.Out.{advanced-clock, out-in-history}
 use Rattle.claims.proofs.Replies.{reply-ticket, advance-gives}
-use Rattle.claims.proofs.Invariant.{Invariant, usable, says, few, open-done, invariant-started, invariant-call, invariant-all}
+use Rattle.claims.proofs.Invariant.{Invariant, usable, says, few, written, block-is, offer-is, number-as-block, open-done, invariant-started, invariant-call, invariant-all}
 
 -- ---- each accepted order
 module _ (run : Run) (kept : Invariant run) where
@@ -81,6 +84,16 @@ module _ (run : Run) (kept : Invariant run) where
   unfolding feed
   fed-offer block k e = rw e
 
+  -- An order by format counts as its block.
+  format-agrees : (f : FormatOrder) (reply : List ℕ) → formatNumber (run .image) f reply ≡ 0 → word (offerFormatCall (run .image) f reply .reply) replyTicketAt ≡ length (acceptIn (formatBlock (h .n) f) h .orders)
+  format-agrees f reply done =
+      let decided : Decided (formatNumber (run .image) f reply) = inl done in
+      rw (offer-is run kept f reply decided, ← block-is run kept f reply decided) (offer-agrees (written run kept f reply decided) reply (sym (number-as-block run kept f reply decided) ∙ done))
+
+  fed-format : (f : FormatOrder) (k : ℕ) → k ≡ 0 → feed (offeringFormat f) k h ≡ acceptIn (formatBlock (h .n) f) h
+  unfolding feed
+  fed-format f k e = rw e
+
   pub fed-advance : (k : ℕ) → k ≡ 0 → feed advancing k h ≡ advanceIn h
   unfolding feed
   fed-advance k e = rw e
@@ -90,6 +103,8 @@ module _ (run : Run) (kept : Invariant run) where
   agrees (opening n) reply = tt
   agrees (quoting block) reply = tt
   agrees (offering block) reply = λ done. rw (fed-offer block (offerCall (run .image) block reply .number) done) (offer-agrees block reply (unfold offerCall result in done))
+  agrees (quotingFormat f) reply = tt
+  agrees (offeringFormat f) reply = λ done. rw (fed-format f (offerFormatCall (run .image) f reply .number) done) (format-agrees f reply (unfold offerFormatCall result in done))
   agrees advancing reply = λ done. rw (fed-advance (advanceCall (run .image) reply .number) done) (advance-agrees reply (unfold advanceCall result in done))
 
   pub call-agrees : (lent : Lent) → Agrees (lent .call) (outcome run lent) (afterCall run lent .history)

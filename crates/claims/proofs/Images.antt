@@ -1,6 +1,7 @@
 -- What the schedule's theorems say of states, said of images: a sound image says a valid state, and each done call leaves the image of the state after it. Over
 -- lists of calls the steps of the schedule are the done offers and the done advances.
 use mathlib.Core.Path.{_≡_, refl, sym, ap, subst, _∙_}
+use mathlib.Core.Logic.{inl}
 use mathlib.Core.List.{List, [], _∷_, _++_, map}
 use Prim.Native.Nat.{ℕ, zero, suc, _+_}
 use native.Mathlib.Omega.{arith}
@@ -9,8 +10,9 @@ use Rattle.model.specs.declared.Service.{Service}
 use Rattle.model.specs.State.{State, idle}
 use Rattle.model.specs.Tick.{oneLess, starts, tick, leave, advance}
 use Rattle.model.specs.Image.{decode}
-use Rattle.model.specs.Admission.{blockOf, accept}
-use Rattle.model.specs.Calls.{result, openCall, offerNumber, offerCall, quoteCall, advanceNumber, advanceCall, Call, opening, quoting, offering, advancing, perform}
+use Rattle.model.specs.Admission.{blockOf, blockBytes, accept}
+use Rattle.model.specs.Formats.{FormatOrder, formatBlock}
+use Rattle.model.specs.Calls.{Result, result, openCall, offerNumber, offerCall, quoteCall, formatNumber, offerFormatCall, quoteFormatCall, advanceNumber, advanceCall, Call, opening, quoting, offering, quotingFormat, offeringFormat, advancing, perform}
 use Rattle.model.specs.Runs.{Lent, started, afterAll}
 use Rattle.schedule.specs.Valid.{_∈_, serving}
 use Rattle.schedule.specs.Accept.{Acceptable}
@@ -28,7 +30,8 @@ use Rattle.call_laws.proofs.offers.Questions.{eight-ranks, eight-costs}
 use Rattle.call_laws.proofs.opens.Exact.{open-decline-leaves}
 use Rattle.call_laws.proofs.offers.Exact.{exact}
 use Rattle.call_laws.proofs.offers.Accept.{accept-sound}
-use Rattle.call_laws.proofs.offers.Kept.{done-image, decline-leaves, quote-gives-offer}
+use Rattle.call_laws.proofs.offers.Kept.{done-image, decline-leaves, quote-gives-offer, format-quote-gives-offer, format-decline-leaves}
+use Rattle.call_laws.proofs.formats.Exact.{same-number, format-as-block}
 use Rattle.call_laws.proofs.advances.Exact.{advance-numbers}
 use Rattle.call_laws.proofs.advances.Advance.{advance-sound}
 use Rattle.call_laws.proofs.advances.Kept.{advance-decline-leaves}
@@ -129,6 +132,20 @@ module _ (later : List Lent) (follows : Follows later) (image : List ℕ) (sound
       let f = unchanged (offerCall image block reply .image) (decline-leaves image block reply (λ z. let w : _≡_ {A = ℕ} (suc k) 0 = sym e ∙ z in omega arith)) allowed in
       record { steps = f .steps; may = f .may; same-ticks = f .same-ticks }
 
+  -- An order by format that is done is that of its block.
+  format-offered : (f : FormatOrder) (reply : List ℕ) (k : ℕ) → formatNumber image f reply ≡ k → NotReopened (offerFormatCall image f reply .image) later → Followed image (record { call = offeringFormat f; reply = reply } ∷ later) (decode image)
+  unfolding perform
+  format-offered f reply zero e allowed =
+      let a = format-as-block image f reply in
+      let w = a .considered (inl e) in
+      let block = blockBytes (formatBlock (decode image .n) f) in
+      let is = a .offers-as-block w in
+      let g = offered block reply 0 (sym (same-number image f reply w) ∙ e) (subst (λ (r : Result). NotReopened (r .image) later) is allowed) in
+      record { steps = g .steps; may = g .may; same-ticks = g .same-ticks ∙ ap (λ (r : Result). duringCalls (r .image) later) (sym is) }
+  format-offered f reply (suc k) e allowed =
+      let g = unchanged (offerFormatCall image f reply .image) (format-decline-leaves image f reply (λ z. let w : _≡_ {A = ℕ} (suc k) 0 = sym e ∙ z in omega arith)) allowed in
+      record { steps = g .steps; may = g .may; same-ticks = g .same-ticks }
+
   by-number : (reply : List ℕ) {k : ℕ} → advanceCall image reply .number ≡ k → duringCall advancing image k ++ duringCalls (advanceCall image reply .image) later ≡ duringCalls image (record { call = advancing; reply = reply } ∷ later)
   unfolding perform
   by-number reply e = ap (λ (j : ℕ). duringCall advancing image j ++ duringCalls (advanceCall image reply .image) later) (sym e)
@@ -152,6 +169,8 @@ module _ (later : List Lent) (follows : Follows later) (image : List ℕ) (sound
       go (opening n) reply allowed = let f = unchanged (openCall image n reply .image) (open-decline-leaves image n reply (unfold openCall result in allowed .0)) (allowed .1) in record { steps = f .steps; may = f .may; same-ticks = f .same-ticks }
       go (quoting block) reply allowed = let f = unchanged (quoteCall image block reply .image) (quote-gives-offer image block reply .image-left) (allowed .1) in record { steps = f .steps; may = f .may; same-ticks = f .same-ticks }
       go (offering block) reply allowed = offered block reply (offerNumber image block reply) refl (allowed .1)
+      go (quotingFormat f) reply allowed = let g = unchanged (quoteFormatCall image f reply .image) (format-quote-gives-offer image f reply .image-left) (allowed .1) in record { steps = g .steps; may = g .may; same-ticks = g .same-ticks }
+      go (offeringFormat f) reply allowed = format-offered f reply (formatNumber image f reply) refl (allowed .1)
       go advancing reply allowed = advanced reply (advanceCall image reply .number) refl (allowed .1)
 
 follow : (calls : List Lent) → Follows calls

@@ -1,7 +1,8 @@
 -- The invariant over lists of calls: the image is that of the state that the history stands for, this state is sound, and no more orders were accepted than
 -- the clock shows and are live, so that tickets do not end. Every call that demand 3 allows keeps it.
 use mathlib.Core.Path.{_≡_, refl, sym, ap, subst, _∙_}
-use mathlib.Core.Bool.{true, false}
+use mathlib.Core.Logic.{inl}
+use mathlib.Core.Bool.{true}
 use mathlib.Core.List.{List, [], _∷_, _++_}
 use Prim.Native.Nat.{ℕ, zero, suc, _+_, _≤_, _<_}
 use native.Mathlib.Omega.{arith}
@@ -17,12 +18,14 @@ use Rattle.model.specs.Layout.{imageSize, replySize}
 use Rattle.model.specs.Image.{marked, decode, encode}
 use Rattle.model.specs.Soundness.{sound}
 use Rattle.model.specs.Questions.{Question, _else_, firstNo}
-use Rattle.model.specs.Admission.{blockOf, arrival, joinedBy, accept, orderQuestions}
-use Rattle.model.specs.Calls.{result, replyQuestion, lengthQuestion, imageQuestions, openNumber, openCall, offerNumber, offerCall, advanceNumber, advanceCall, Call, opening, quoting, offering, advancing, perform}
+use Rattle.model.specs.Admission.{blockOf, blockBytes, arrival, joinedBy, accept, orderQuestions}
+use Rattle.model.specs.Formats.{FormatOrder, formatBlock, formatOrderQuestions}
+use Rattle.model.specs.Calls.{result, replyQuestion, lengthQuestion, imageQuestions, openNumber, openCall, offerNumber, offerCall, formatNumber, offerFormatCall, advanceNumber, advanceCall, Call, opening, quoting, offering, quotingFormat, offeringFormat, advancing, perform}
 use Rattle.model.specs.History.{History, begun, acceptIn, advanceIn, feed}
 use Rattle.model.specs.StateOf.{stateOf}
 use Rattle.model.specs.Runs.{Lent, Run, started, outcome, afterCall, afterAll, Allowed, AllAllowed}
 use Rattle.schedule.specs.Valid.{_∈_}
+use Rattle.lists.proofs.Questions.{same-after}
 use Rattle.delay.specs.Events.{MayAccept}
 use Rattle.delay.proofs.Book.{length-accept, same-clock}
 use Rattle.delay.proofs.DueTimes as due
@@ -33,12 +36,15 @@ use Rattle.image_laws.proofs.Sound.{gives-sound}
 use Rattle.image_laws.proofs.Fresh.{fresh-sound}
 use Rattle.call_laws.specs.Considered.{Fitting}
 use Rattle.call_laws.specs.OfferExact.{InTime}
+use Rattle.call_laws.specs.FormatExact.{Writable}
 use Rattle.call_laws.proofs.opens.Exact as opens
-use Rattle.call_laws.proofs.offers.Questions.{eight-ranks, eight-costs}
+use Rattle.call_laws.proofs.offers.Questions.{Decided, eight-ranks, eight-costs}
 use Rattle.call_laws.proofs.offers.Times.{time-says, live-say}
 use Rattle.call_laws.proofs.offers.Exact.{exact}
 use Rattle.call_laws.proofs.offers.Accept.{accept-length, accept-sound}
-use Rattle.call_laws.proofs.offers.Kept.{done-image, decline-leaves, quote-gives-offer}
+use Rattle.call_laws.proofs.offers.Kept.{done-image, decline-leaves, quote-gives-offer, format-quote-gives-offer, format-decline-leaves}
+use Rattle.call_laws.proofs.formats.Block.{format-read}
+use Rattle.call_laws.proofs.formats.Exact.{same-number, format-as-block}
 use Rattle.call_laws.proofs.advances.Exact.{advance-numbers}
 use Rattle.call_laws.proofs.advances.Advance.{advance-sound}
 use Rattle.call_laws.proofs.advances.Kept.{advance-decline-leaves}
@@ -52,12 +58,6 @@ pub record Invariant (run : Run) : Type 0 where
   pub counted : length (run .history .orders) ≤ run .history .clock + length (stateOf (run .history) .orders)
 
 -- ---- what the image of such a run passes
--- A question decides alike before lists that decide alike.
-same-after : (q : Question) (l m : List Question) → firstNo l ≡ firstNo m → firstNo (q ∷ l) ≡ firstNo (q ∷ m)
-unfolding firstNo
-same-after (true else k) l m e = e
-same-after (false else k) l m e = refl
-
 module _ (run : Run) (kept : Invariant run) where
   abbrev here : State
   here = stateOf (run .history)
@@ -82,17 +82,22 @@ module _ (run : Run) (kept : Invariant run) where
   unfolding firstNo imageQuestions lengthQuestion
   images-pass m = rw (eq-eqb (length (run .image)) imageSize whole, is-marked, sound-image)
 
+  asks : (rest : State → List Question) (reply : List ℕ) → firstNo (replyQuestion reply ∷ imageQuestions (run .image) ++ rest (decode (run .image))) ≡ firstNo (replyQuestion reply ∷ rest here)
+  asks rest reply =
+      same-after (replyQuestion reply ∷ []) (imageQuestions (run .image) ++ rest (decode (run .image))) (rest (decode (run .image))) (images-pass (rest (decode (run .image))))
+      ∙ ap (λ (s : State). firstNo (replyQuestion reply ∷ rest s)) says
+
   pub offer-asks : (block reply : List ℕ) → offerNumber (run .image) block reply ≡ firstNo (replyQuestion reply ∷ orderQuestions here block)
   unfolding offerNumber
-  offer-asks block reply =
-      same-after (replyQuestion reply) _ _ (images-pass (orderQuestions (decode (run .image)) block))
-      ∙ ap (λ (s : State). firstNo (replyQuestion reply ∷ orderQuestions s block)) says
+  offer-asks block reply = asks (λ s. orderQuestions s block) reply
+
+  pub format-asks : (f : FormatOrder) (reply : List ℕ) → formatNumber (run .image) f reply ≡ firstNo (replyQuestion reply ∷ formatOrderQuestions here f)
+  unfolding formatNumber
+  format-asks f reply = asks (λ s. formatOrderQuestions s f) reply
 
   pub advance-asks : (reply : List ℕ) → advanceNumber (run .image) reply ≡ firstNo (replyQuestion reply ∷ (ltb (here .clock) lastTick else 13) ∷ [])
   unfolding advanceNumber
-  advance-asks reply =
-      same-after (replyQuestion reply) _ _ (images-pass ((ltb (decode (run .image) .clock) lastTick else 13) ∷ []))
-      ∙ ap (λ (s : State). firstNo (replyQuestion reply ∷ (ltb (s .clock) lastTick else 13) ∷ [])) says
+  advance-asks reply = asks (λ s. (ltb (s .clock) lastTick else 13) ∷ []) reply
 
   -- Tickets are left.
   pub few : length (run .history .orders) + 1 < lastTicket
@@ -154,6 +159,25 @@ module _ (run : Run) (kept : Invariant run) (block reply : List ℕ) (done : off
         counted = omega (arith, length-accept b h, same-clock b h, kept .counted, ap (λ (s : State). length (s .orders)) accepts, accept-length (stateOf h) b);
       }
 
+-- ---- an order by format: where it is done, late, or would make a live order late, the call is that of the block that it stands for
+module _ (run : Run) (kept : Invariant run) (f : FormatOrder) (reply : List ℕ) (decided : Decided (formatNumber (run .image) f reply)) where
+  pub can-be-written : Writable (decode (run .image) .n) f
+  can-be-written = format-as-block (run .image) f reply .considered decided
+
+  -- Its bytes.
+  abbrev pub written : List ℕ
+  written = blockBytes (formatBlock (decode (run .image) .n) f)
+
+  pub block-is : blockOf written ≡ formatBlock (run .history .n) f
+  unfolding stateOf
+  block-is = format-read (decode (run .image) .n) f can-be-written ∙ ap (λ (s : State). formatBlock (s .n) f) (says run kept)
+
+  pub offer-is : offerFormatCall (run .image) f reply ≡ offerCall (run .image) written reply
+  offer-is = format-as-block (run .image) f reply .offers-as-block can-be-written
+
+  pub number-as-block : formatNumber (run .image) f reply ≡ offerNumber (run .image) written reply
+  number-as-block = same-number (run .image) f reply can-be-written
+
 -- ---- a done advance
 module _ (run : Run) (kept : Invariant run) (reply : List ℕ) (done : advanceNumber (run .image) reply ≡ 0) where
   before-last : stateOf (run .history) .clock < lastTick
@@ -190,6 +214,15 @@ module _ (run : Run) (kept : Invariant run) where
   offered block reply zero e = invariant-offered run kept block reply e
   offered block reply (suc k) e = unchanged (decline-leaves (run .image) block reply (λ z. let w : _≡_ {A = ℕ} (suc k) 0 = sym e ∙ z in omega arith))
 
+  format-offered : (f : FormatOrder) (reply : List ℕ) (k : ℕ) → formatNumber (run .image) f reply ≡ k → Invariant (leaving (offerFormatCall (run .image) f reply .image) (feed (offeringFormat f) k (run .history)))
+  unfolding feed
+  format-offered f reply zero e =
+      let decided : Decided (formatNumber (run .image) f reply) = inl e in
+      let block = written run kept f reply decided in
+      let done = sym (number-as-block run kept f reply decided) ∙ e in
+      rw (offer-is run kept f reply decided, ← block-is run kept f reply decided) (invariant-offered run kept block reply done)
+  format-offered f reply (suc k) e = unchanged (format-decline-leaves (run .image) f reply (λ z. let w : _≡_ {A = ℕ} (suc k) 0 = sym e ∙ z in omega arith))
+
   advanced : (reply : List ℕ) (k : ℕ) → advanceNumber (run .image) reply ≡ k → Invariant (leaving (advanceCall (run .image) reply .image) (feed advancing k (run .history)))
   unfolding feed
   advanced reply zero e = invariant-advanced run kept reply e
@@ -200,6 +233,8 @@ module _ (run : Run) (kept : Invariant run) where
   called (opening n) reply other = unfold feed in unchanged (opens.open-decline-leaves (run .image) n reply (unfold openCall result in other))
   called (quoting block) reply any = unfold feed in unchanged (quote-gives-offer (run .image) block reply .image-left)
   called (offering block) reply any = unfold offerCall result in offered block reply (offerNumber (run .image) block reply) refl
+  called (quotingFormat f) reply any = unfold feed in unchanged (format-quote-gives-offer (run .image) f reply .image-left)
+  called (offeringFormat f) reply any = unfold offerFormatCall result in format-offered f reply (formatNumber (run .image) f reply) refl
   called advancing reply any = unfold advanceCall result in advanced reply (advanceNumber (run .image) reply) refl
 
   pub invariant-call : (lent : Lent) → Allowed (lent .call) (outcome run lent) → Invariant (afterCall run lent)

@@ -3,6 +3,7 @@ pub mod Out
 pub mod Replies
 pub mod Invariant
 pub mod Demand3
+pub mod ByFormat
 pub mod ByHistory
 pub mod Progress
 pub mod Images

@@ -5,7 +5,9 @@ use mathlib.Core.List.{List, [], _∷_, _++_, map}
 use Prim.Native.Nat.{ℕ, suc}
 use Rattle.model.specs.Table.{Row, Held, held, AllHold, EachFrom}
 use Rattle.model.specs.Cases.{paperCases}
+use Rattle.model.specs.FormatCases.{formatCases}
 use Rattle.model.proofs.Cases.{paper-cases-hold}
+use Rattle.model.proofs.FormatCases.{format-cases-hold}
 use Rattle.plan_model.specs.Cases.{Printing, isPrinted, paperTables}
 use Rattle.plan_model.proofs.Cases.{paper-tables-hold}
 use Rattle.claims.specs.WorkedCases.{Case, ofCalls, ofPlan, EachHolds, paperTable, WorkedCases}
@@ -17,10 +19,17 @@ plans : (k : ℕ) (tables : List Printing) → EachFrom isPrinted k tables → E
 plans k [] h = tt
 plans k (t ∷ tables) h = (is-true k (isPrinted t) (h .0), plans (suc k) tables (h .1))
 
-together : (cases : List (List Row)) (plans : List Case) → AllHold cases → EachHolds plans → EachHolds (map ofCalls cases ++ plans)
-together [] plans h p = p
-together (rows ∷ cases) plans h p = (h .0, together cases plans (h .1) p)
+calls : (cases : List (List Row)) → AllHold cases → EachHolds (map ofCalls cases)
+calls [] h = tt
+calls (rows ∷ cases) h = (h .0, calls cases (h .1))
+
+together : (a b : List Case) → EachHolds a → EachHolds b → EachHolds (a ++ b)
+together [] b p q = q
+together (case ∷ a) b p q = (p .0, together a b (p .1) q)
 
 pub worked-cases-hold : WorkedCases
 unfolding paperTable
-worked-cases-hold = together paperCases (map ofPlan paperTables) paper-cases-hold (plans 1 paperTables paper-tables-hold)
+worked-cases-hold =
+    together (map ofCalls paperCases ++ map ofPlan paperTables) (map ofCalls formatCases)
+    (together (map ofCalls paperCases) (map ofPlan paperTables) (calls paperCases paper-cases-hold) (plans 1 paperTables paper-tables-hold))
+    (calls formatCases format-cases-hold)

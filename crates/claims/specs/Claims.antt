@@ -1,16 +1,18 @@
--- What a stranger may rely on, in one record. The contracts of the calls say that each does what `openCall`, `quoteCall`, `offerCall` or `advanceCall` says,
--- and those of plan that it does what `planNumber`, `afterPlan` and `planOutput` say; these are theorems about the same definitions. Each has a use in the
+-- What a stranger may rely on, in one record. The contracts of the calls say that each does what `openCall`, `quoteCall`, `offerCall`, `quoteFormatCall`,
+-- `offerFormatCall` or `advanceCall` says, and those of plan that it does what `planNumber`, `afterPlan` and `planOutput` say; these are theorems about the same definitions. Each has a use in the
 -- crate `uses`: a definite case from which everything that it says is taken, in figures.
 use mathlib.Core.Path.{_≡_}
 use mathlib.Core.Bool.{true}
 use mathlib.Core.List.{List}
 use Prim.Native.Nat.{ℕ}
+use Rattle.model.specs.Formats.{bothSeriesHalve}
 use Rattle.plan_model.specs.declared.Task.{Task}
 use Rattle.plan_model.specs.Meaning.{Meaning, Leaves, NotRead}
 use Rattle.plan_model.specs.Cases.{isPrinted, chapterSix, largestResponse}
 use Rattle.call_laws.specs.OpenExact.{OpensFresh}
 use Rattle.call_laws.specs.OfferExact.{Exact}
-use Rattle.call_laws.specs.OfferKept.{OfferKeepsSound, QuoteGivesOffer}
+use Rattle.call_laws.specs.OfferKept.{OfferKeepsSound, QuoteGivesOffer, FormatQuoteGivesOffer}
+use Rattle.call_laws.specs.FormatExact.{FormatAsBlock}
 use Rattle.call_laws.specs.AdvanceExact.{AdvanceNumbers}
 use Rattle.call_laws.specs.AdvanceKept.{AdvanceKeepsSound}
 use Rattle.claims.specs.Demand3.{Demand3}
@@ -30,6 +32,11 @@ pub record Claims : Type 0 where
   pub by-history : ByHistory
   -- "Quote gives what offer would give, with ticket 0, and changes nothing in the image."
   pub quote-gives-offer : QuoteGivesOffer
+  -- Document 02, (i): "Offered or quoted, it gets the reply, and leaves the image, that the same order written as a block does"; quotes and offers by format.
+  pub format-as-block : FormatAsBlock
+  pub format-quote-gives-offer : FormatQuoteGivesOffer
+  -- The rule of ISO 216, in the table of long sides.
+  pub long-sides : bothSeriesHalve ≡ true
   -- "demand 2's starts": the course of each tick, when an order may start first, and the way of each order, of every image of bytes and after every list of calls.
   pub ticks : OfEveryImage TicksAsAsked
   pub ticks-over-runs : AfterEveryList TicksAsAsked

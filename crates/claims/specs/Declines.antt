@@ -16,6 +16,6 @@ pub record DeclinedAt (image reply : List ℕ) (r : Result) : Type 0 where
   pub number-given : r .number ≢ 1 → take replyMarginAt (r .reply) ≡ fourBytes (r .number) ++ fourBytes 0 ++ fourBytes 0
   pub all-given : r .number ≢ 1 → r .number ≢ 11 → r .number ≢ 12 → r .reply ≡ fourBytes (r .number) ++ fourBytes 0 ++ fourBytes 0 ++ fourBytes 0
 
--- Of each of the four calls, whatever is lent to it.
+-- Of each call, whatever is lent to it.
 abbrev pub Declines : Type 0
 Declines = (call : Call) (image reply : List ℕ) → perform call image reply .number ≢ 0 → DeclinedAt image reply (perform call image reply)

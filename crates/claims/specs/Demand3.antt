@@ -7,7 +7,7 @@ use lib.ListN.{length}
 use Rattle.model.specs.Limits.{maxStations}
 use Rattle.model.specs.Bytes.{word}
 use Rattle.model.specs.Layout.{imageSize, replySize, replyTicketAt, replyTickAt}
-use Rattle.model.specs.Calls.{Result, openCall, advanceCall, Call, opening, quoting, offering, advancing}
+use Rattle.model.specs.Calls.{Result, openCall, advanceCall, Call, opening, quoting, offering, quotingFormat, offeringFormat, advancing}
 use Rattle.model.specs.History.{Entry, History, entryDue, entryBound, outAt}
 use Rattle.model.specs.Runs.{Lent, Run, started, outcome, afterCall, afterAll, AllAllowed}
 
@@ -23,6 +23,8 @@ abbrev pub Agrees : Call → Result → History → Type 0
 Agrees (opening n) result h = Unit {0}
 Agrees (quoting block) result h = Unit {0}
 Agrees (offering block) result h = result .number ≡ 0 → word (result .reply) replyTicketAt ≡ length (h .orders)
+Agrees (quotingFormat f) result h = Unit {0}
+Agrees (offeringFormat f) result h = result .number ≡ 0 → word (result .reply) replyTicketAt ≡ length (h .orders)
 Agrees advancing result h = result .number ≡ 0 → (word (result .reply) replyTicketAt ≡ outAt (h .clock) (h .orders)) × (word (result .reply) replyTickAt ≡ h .clock)
 
 abbrev pub AllAgree : Run → List Lent → Type 0

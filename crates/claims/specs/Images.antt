@@ -15,7 +15,7 @@ use Rattle.model.specs.Tick.{oneLess, starts, advance, advanceOut}
 use Rattle.model.specs.Layout.{imageSize, replySize, replyTicketAt}
 use Rattle.model.specs.Image.{decode}
 use Rattle.model.specs.Admission.{blockOf}
-use Rattle.model.specs.Calls.{offerNumber, offerCall, advanceNumber, advanceCall, Call, opening, quoting, offering, advancing, perform}
+use Rattle.model.specs.Calls.{offerNumber, offerCall, advanceNumber, advanceCall, Call, opening, quoting, offering, quotingFormat, offeringFormat, advancing, perform}
 use Rattle.model.specs.Runs.{Lent, started, afterAll, Allowed, AllAllowed}
 use Rattle.schedule.specs.Valid.{_∈_, serving, cost, Busy}
 use Rattle.schedule.specs.Starts.{AtStart}
@@ -83,6 +83,8 @@ abbrev pub duringCall : Call → List ℕ → ℕ → List (List Service)
 duringCall (opening n) image number = []
 duringCall (quoting block) image number = []
 duringCall (offering block) image number = []
+duringCall (quotingFormat f) image number = []
+duringCall (offeringFormat f) image number = []
 duringCall advancing image zero = starts (decode image) .services ∷ []
 duringCall advancing image (suc other) = []
 

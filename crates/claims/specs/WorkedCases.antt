@@ -1,9 +1,10 @@
--- "The cases marked P form one proved table": document 01's counter examples, in its order.
+-- "The cases marked P form one proved table": document 01's counter examples, in its order; then those of document 02's requests that have landed.
 use mathlib.Core.Path.{_≡_}
 use mathlib.Core.Bool.{true}
 use mathlib.Core.List.{List, [], _∷_, _++_, map}
 use Rattle.model.specs.Table.{Row, Hold}
 use Rattle.model.specs.Cases.{paperCases}
+use Rattle.model.specs.FormatCases.{formatCases}
 use Rattle.plan_model.specs.Cases.{Printing, isPrinted, paperTables}
 
 pub data Case : Type 0 where
@@ -21,7 +22,7 @@ EachHolds [] = Unit {0}
 EachHolds (case ∷ later) = CaseHolds case × EachHolds later
 
 unfoldable pub paperTable : List Case
-paperTable = map ofCalls paperCases ++ map ofPlan paperTables
+paperTable = map ofCalls paperCases ++ map ofPlan paperTables ++ map ofCalls formatCases
 
 abbrev pub WorkedCases : Type 0
 WorkedCases = EachHolds paperTable
