@@ -1,6 +1,5 @@
 -- The block of an order by format as code has it, with costs of two bytes each.
 use mathlib.Core.Bool.{cond}
-use mathlib.Core.List.{List}
 use Prim.Native.Nat.{ℕ}
 use lib.Dec.{ltb}
 use Rattle.model.specs.declared.Block.{Block}

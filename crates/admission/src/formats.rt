@@ -1,9 +1,8 @@
 // Document 02, (i), "Order by paper format": the order block that such an order stands for. Its costs are worked out from the
 // table of long sides and from the station sheet; everything after the block is that of any order.
 ghost use mathlib.Core.Path.{_≡_};
-ghost use mathlib.Core.Bool.{cond};
 ghost use Prim.Native.Nat.{ℕ, _+_, _≤_, _<_};
-ghost use lib.ListN.{length, take};
+ghost use lib.ListN.{take};
 ghost use lib.Dec.{leb};
 ghost use Rattle.model.specs.Limits.{maxStations, maxFormat};
 ghost use Rattle.model.specs.Lists.{at, all, roundedUp};

@@ -21,7 +21,7 @@ use Rattle.model.specs.Layout.{imageSize, blockSize, replyTickAt, replyMarginAt
 use Rattle.model.specs.Image.{decode}
 use Rattle.model.specs.Questions.{Question, _else_, firstNo, Answer, replyBytes}
 use Rattle.model.specs.Admission.{blockOf, dueOf, arrival, joinedBy, joinedLive, smallestMargin, blockLengthQuestion, blockQuestions, stateQuestions, orderQuestions, offerAnswer, quoteAnswer}
-use Rattle.model.specs.Formats.{FormatOrder, formatBlock, formatQuestions, formatOrderQuestions}
+use Rattle.model.specs.Formats.{FormatOrder, formatQuestions, formatOrderQuestions}
 use Rattle.model.specs.Calls.{Result, result, replyQuestion, lengthQuestion, openNumber, openCall, offerNumber, offerCall, quoteCall, formatNumber, offerFormatCall, quoteFormatCall, advanceNumber, advanceCall, Call, opening, quoting, offering, quotingFormat, offeringFormat, advancing, perform}
 use Rattle.model.specs.History.{Entry, History, liveOrders, entryDue, entryBound, entering, acceptIn}
 use Rattle.model.specs.StateOf.{recordOf, stateOf}

@@ -10,6 +10,7 @@ use lib.ListN.{length, getD}
 use borrow.Author.Tests.{leb-true}
 use lib.IntN.{ℤ}
 use lib.Signed.{mag}
+use Rattle.model.specs.declared.Block.{Block}
 use Rattle.model.specs.Limits.{lastTick}
 use Rattle.model.specs.Lists.{at, part}
 use Rattle.model.specs.Bytes.{word, fourBytes, bits32}
@@ -29,48 +30,48 @@ use Rattle.uses.specs.DefiniteLists.{someImage, someReply, opened, whole
 use Rattle.uses.proofs.DefiniteLists.{entry}
 use Rattle.uses.proofs.Words.{Figure, of-two, smaller, smaller-of-two}
 
--- ---- what is taken from a judgement, of any history with one live order and any block that would be the second
-module _ (h : History) (block : List ℕ) where
+-- ---- what is taken from a judgement, of any history with one live order and any block that would be the second; `Given` is what is asked before the block
+module _ (Given : Type 0) (h : History) (b : Block) where
   abbrev costs : List ℕ
-  costs = blockOf block .costs
+  costs = b .costs
 
   -- With the block accepted: the order that is live, and the arrival.
   abbrev withIt : ℕ → Entry
-  withIt i = getD (liveOrders (tried h block)) i (arriving h block)
+  withIt i = getD (liveOrders (tried h b)) i (arriving h b)
 
   abbrev TheTwo : Type 0
-  TheTwo = liveOrders (tried h block) ≡ withIt 0 ∷ withIt 1 ∷ []
+  TheTwo = liveOrders (tried h b) ≡ withIt 0 ∷ withIt 1 ∷ []
 
   -- What was asked before 11, of the costs at the first station and at the last, and beyond it.
   abbrev Asked : Type 0
   Asked =
-      (length someReply ≡ 16) × (length block ≡ 28) × (1 ≤ at 0 costs 1) × (at 0 costs 1 ≤ 6000) × (1 ≤ at 0 costs (h .n)) × (at 0 costs (h .n) ≤ 6000)
-      × (at 0 costs (h .n + 1) ≡ 0) × (at 0 (blockOf block .ranks) (h .n + 1) ≡ 0) × (blockOf block .«due_in» ≤ 60000) × (dueOf (h .clock) (blockOf block) ≤ 4000000000)
+      (length someReply ≡ 16) × Given × (1 ≤ at 0 costs 1) × (at 0 costs 1 ≤ 6000) × (1 ≤ at 0 costs (h .n)) × (at 0 costs (h .n) ≤ 6000)
+      × (at 0 costs (h .n + 1) ≡ 0) × (at 0 (b .ranks) (h .n + 1) ≡ 0) × (b .«due_in» ≤ 60000) × (dueOf (h .clock) b ≤ 4000000000)
       × (length (liveOrders h) < 32)
 
-  asked : 1 ≤ h .n → Considered h block someReply → Asked
+  asked : 1 ≤ h .n → Considered Given h b someReply → Asked
   asked some c =
-      (c .reply-whole, c .block-whole, c .cost-low 1 (omega arith) some, c .cost-high 1 (omega arith) some, c .cost-low (h .n) some (omega arith), c .cost-high (h .n) some (omega arith), c .cost-beyond (h .n + 1) (omega arith), c .rank-beyond (h .n + 1) (omega arith), c .due-in, c .due-tick, c .room)
+      (c .reply-whole, c .given, c .cost-low 1 (omega arith) some, c .cost-high 1 (omega arith) some, c .cost-low (h .n) some (omega arith), c .cost-high (h .n) some (omega arith), c .cost-beyond (h .n + 1) (omega arith), c .rank-beyond (h .n + 1) (omega arith), c .due-in, c .due-tick, c .room)
 
   -- And the way back, by computed tests.
-  considered : length block ≡ blockSize → h .n ≤ length costs → costsInRange (h .n) costs ≡ true → zeroBeyond (h .n) costs ≡ true → zeroBeyond (h .n) (blockOf block .ranks) ≡ true → blockOf block .«due_in» ≤ 60000 → dueOf (h .clock) (blockOf block) ≤ lastTick → length (liveOrders h) < 32 → Considered h block someReply
-  considered whole long range zero-costs zero-ranks due-in due-tick room =
+  pub considered : Given → h .n ≤ length costs → costsInRange (h .n) costs ≡ true → zeroBeyond (h .n) costs ≡ true → zeroBeyond (h .n) (b .ranks) ≡ true → b .«due_in» ≤ 60000 → dueOf (h .clock) b ≤ lastTick → length (liveOrders h) < 32 → Considered Given h b someReply
+  considered given long range zero-costs zero-ranks due-in due-tick room =
       let in-range = costs-say (h .n) costs long .tells range in
       record {
         reply-whole = refl;
-        block-whole = whole;
+        given = given;
         cost-low = λ k low high. in-range k low high .0;
         cost-high = λ k low high. in-range k low high .1;
         cost-beyond = zero-beyond (h .n) costs .tells zero-costs;
-        rank-beyond = zero-beyond (h .n) (blockOf block .ranks) .tells zero-ranks;
+        rank-beyond = zero-beyond (h .n) (b .ranks) .tells zero-ranks;
         due-in = due-in;
         due-tick = due-tick;
         room = room;
       }
 
-  module _ (two : TheTwo) (r : Result) (j : Judged h block someReply r) where
+  module _ (two : TheTwo) (r : Result) (j : Judged Given h b someReply r) where
     abbrev then : History
-    then = tried h block
+    then = tried h b
 
     first-in : withIt 0 ∈ liveOrders then
     first-in = rw two (List·Memᴰ·head refl)
@@ -92,41 +93,48 @@ module _ (h : History) (block : List ℕ) where
         (m .written ∙ ap (λ (z : ℤ). fourBytes (bits32 z)) is, subst (λ (z : ℤ). mag z < 2147483648) is (m .signed32))
 
     -- 0: both on time, the tick, the margin. And back.
-    taken : 1 ≤ h .n → r .number ≡ 0 → Asked × (OnTime then (withIt 0) × OnTime then (withIt 1)) × (word (r .reply) replyTickAt ≡ entryBound then (arriving h block)) × (part (r .reply) replyMarginAt 4 ≡ fourBytes (bits32 least)) × (mag least < 2147483648)
+    pub taken : 1 ≤ h .n → r .number ≡ 0 → Asked × (OnTime then (withIt 0) × OnTime then (withIt 1)) × (word (r .reply) replyTickAt ≡ entryBound then (arriving h b)) × (part (r .reply) replyMarginAt 4 ≡ fourBytes (bits32 least)) × (mag least < 2147483648)
     taken some is =
         let t = j .done .only is in
         let m = margin (inl is) in
         (asked some (t .0), (t .1 (withIt 0) first-in, t .1 (withIt 1) second-in), j .tick is, m .0, m .1)
 
-    taken-back : Considered h block someReply → OnTime then (withIt 0) → OnTime then (withIt 1) → r .number ≡ 0
+    pub taken-back : Considered Given h b someReply → OnTime then (withIt 0) → OnTime then (withIt 1) → r .number ≡ 0
     taken-back c p q = j .done .if (c, of-both (OnTime then) p q)
 
     -- 11: the arrival is late. And back.
-    late : 1 ≤ h .n → r .number ≡ 11 → Asked × Late then (arriving h block) × (part (r .reply) replyMarginAt 4 ≡ fourBytes (bits32 least)) × (mag least < 2147483648)
+    pub late : 1 ≤ h .n → r .number ≡ 11 → Asked × Late then (arriving h b) × (part (r .reply) replyMarginAt 4 ≡ fourBytes (bits32 least)) × (mag least < 2147483648)
     late some is =
         let t = j .late .only is in
         let m = margin (inr (inl is)) in
         (asked some (t .0), t .1, m .0, m .1)
 
-    late-back : Considered h block someReply → Late then (arriving h block) → r .number ≡ 11
+    pub late-back : Considered Given h b someReply → Late then (arriving h b) → r .number ≡ 11
     late-back c p = j .late .if (c, p)
 
     -- 12: the arrival is on time, and the other is not, since some live order is not and the second is. And back.
-    delaying : 1 ≤ h .n → OnTime then (withIt 1) → r .number ≡ 12 → Asked × OnTime then (arriving h block) × Late then (withIt 0) × (part (r .reply) replyMarginAt 4 ≡ fourBytes (bits32 least)) × (mag least < 2147483648)
+    pub delaying : 1 ≤ h .n → OnTime then (withIt 1) → r .number ≡ 12 → Asked × OnTime then (arriving h b) × Late then (withIt 0) × (part (r .reply) replyMarginAt 4 ≡ fourBytes (bits32 least)) × (mag least < 2147483648)
     delaying some on-time is =
         let t = j .delaying .only is in
         let m = margin (inr (inr is)) in
         (asked some (t .0), t .1, of-both (λ (e : Entry). Late then e → Late then (withIt 0)) (λ l. l) (λ l. absurd (let z : ⊥ = omega (arith, l, on-time) in z)) (t .2) (t .3) (t .4), m .0, m .1)
 
-    delaying-back : Considered h block someReply → OnTime then (arriving h block) → Late then (withIt 0) → r .number ≡ 12
+    pub delaying-back : Considered Given h b someReply → OnTime then (arriving h b) → Late then (withIt 0) → r .number ≡ 12
     delaying-back c p q = j .delaying .if (c, p, withIt 0, first-in, q)
+
+-- Of a block that is lent.
+abbrev Whole : List ℕ → Type 0
+Whole block = length block ≡ blockSize
+
+abbrev OfBlock : History → List ℕ → Result → Type 0
+OfBlock h block r = Judged (Whole block) h (blockOf block) someReply r
 
 -- ---- N = 2: X with due-in 9, and one advance
 pub one-allowed : AllAllowed (opened 2) oneCalls
 unfolding oneCalls
 one-allowed = (tt, (tt, tt))
 
-one-in-step : InStep one
+pub one-in-step : InStep one
 unfolding opened one
 one-in-step = claims .by-history 2 (omega arith) (omega arith) someImage refl someReply refl oneCalls one-allowed
 
@@ -136,31 +144,31 @@ unfolding readRow opened oneCalls one X Y Z started afterCall outcome afterAll
 one-image = (ap (λ (image : List ℕ). word image clockAt) (one-in-step .image-is), ap (λ s. s .clock) (one-in-step .read-back))
 
 -- Y with due-in 7: X has the bound 7 and is due at 9, Y the bound 8, on which it is due.
-one-taken : (r : Result) → Judged (one .history) (Y 7 5) someReply r → r .number ≡ 0 → (Figure 16 × Figure 28 × (1 ≤ 1) × (1 ≤ 6000) × (1 ≤ 2) × (2 ≤ 6000) × Figure 0 × Figure 0 × (7 ≤ 60000) × (8 ≤ 4000000000) × (1 < 32)) × ((7 ≤ 9) × (8 ≤ 8)) × (word (r .reply) replyTickAt ≡ 8) × (part (r .reply) replyMarginAt 4 ≡ 0 ∷ 0 ∷ 0 ∷ 0 ∷ []) × (0 < 2147483648)
+one-taken : (r : Result) → OfBlock (one .history) (Y 7 5) r → r .number ≡ 0 → (Figure 16 × Figure 28 × (1 ≤ 1) × (1 ≤ 6000) × (1 ≤ 2) × (2 ≤ 6000) × Figure 0 × Figure 0 × (7 ≤ 60000) × (8 ≤ 4000000000) × (1 < 32)) × ((7 ≤ 9) × (8 ≤ 8)) × (word (r .reply) replyTickAt ≡ 8) × (part (r .reply) replyMarginAt 4 ≡ 0 ∷ 0 ∷ 0 ∷ 0 ∷ []) × (0 < 2147483648)
 unfolding readRow opened oneCalls one X Y Z started afterCall outcome afterAll
-one-taken r j = taken (one .history) (Y 7 5) refl r j (omega arith)
+one-taken r j = taken (Whole (Y 7 5)) (one .history) (blockOf (Y 7 5)) refl r j (omega arith)
 
-one-taken-back : (r : Result) → Judged (one .history) (Y 7 5) someReply r → r .number ≡ 0
+one-taken-back : (r : Result) → OfBlock (one .history) (Y 7 5) r → r .number ≡ 0
 unfolding readRow opened oneCalls one X Y Z started afterCall outcome afterAll
-one-taken-back r j = taken-back (one .history) (Y 7 5) refl r j (considered (one .history) (Y 7 5) refl (leb-true _ _ (refl {a = true})) (refl {a = true}) (refl {a = true}) (refl {a = true}) (leb-true _ _ (refl {a = true})) (leb-true _ _ (refl {a = true})) (leb-true _ _ (refl {a = true}))) (leb-true _ _ (refl {a = true})) (leb-true _ _ (refl {a = true}))
+one-taken-back r j = taken-back (Whole (Y 7 5)) (one .history) (blockOf (Y 7 5)) refl r j (considered (Whole (Y 7 5)) (one .history) (blockOf (Y 7 5)) refl (leb-true _ _ (refl {a = true})) (refl {a = true}) (refl {a = true}) (refl {a = true}) (leb-true _ _ (refl {a = true})) (leb-true _ _ (refl {a = true})) (leb-true _ _ (refl {a = true}))) (leb-true _ _ (refl {a = true})) (leb-true _ _ (refl {a = true}))
 
 -- Y with due-in 6 is due at 7.
-one-late : (r : Result) → Judged (one .history) (Y 6 5) someReply r → r .number ≡ 11 → (Figure 16 × Figure 28 × (1 ≤ 1) × (1 ≤ 6000) × (1 ≤ 2) × (2 ≤ 6000) × Figure 0 × Figure 0 × (6 ≤ 60000) × (7 ≤ 4000000000) × (1 < 32)) × (7 < 8) × (part (r .reply) replyMarginAt 4 ≡ 255 ∷ 255 ∷ 255 ∷ 255 ∷ []) × (0 < 2147483648)
+one-late : (r : Result) → OfBlock (one .history) (Y 6 5) r → r .number ≡ 11 → (Figure 16 × Figure 28 × (1 ≤ 1) × (1 ≤ 6000) × (1 ≤ 2) × (2 ≤ 6000) × Figure 0 × Figure 0 × (6 ≤ 60000) × (7 ≤ 4000000000) × (1 < 32)) × (7 < 8) × (part (r .reply) replyMarginAt 4 ≡ 255 ∷ 255 ∷ 255 ∷ 255 ∷ []) × (0 < 2147483648)
 unfolding readRow opened oneCalls one X Y Z started afterCall outcome afterAll
-one-late r j = late (one .history) (Y 6 5) refl r j (omega arith)
+one-late r j = late (Whole (Y 6 5)) (one .history) (blockOf (Y 6 5)) refl r j (omega arith)
 
-one-late-back : (r : Result) → Judged (one .history) (Y 6 5) someReply r → r .number ≡ 11
+one-late-back : (r : Result) → OfBlock (one .history) (Y 6 5) r → r .number ≡ 11
 unfolding readRow opened oneCalls one X Y Z started afterCall outcome afterAll
-one-late-back r j = late-back (one .history) (Y 6 5) refl r j (considered (one .history) (Y 6 5) refl (leb-true _ _ (refl {a = true})) (refl {a = true}) (refl {a = true}) (refl {a = true}) (leb-true _ _ (refl {a = true})) (leb-true _ _ (refl {a = true})) (leb-true _ _ (refl {a = true}))) (leb-true _ _ (refl {a = true}))
+one-late-back r j = late-back (Whole (Y 6 5)) (one .history) (blockOf (Y 6 5)) refl r j (considered (Whole (Y 6 5)) (one .history) (blockOf (Y 6 5)) refl (leb-true _ _ (refl {a = true})) (refl {a = true}) (refl {a = true}) (refl {a = true}) (leb-true _ _ (refl {a = true})) (leb-true _ _ (refl {a = true})) (leb-true _ _ (refl {a = true}))) (leb-true _ _ (refl {a = true}))
 
 -- Z has the bound 12 and is due at 101; X would have the bound 11.
-one-delaying : (r : Result) → Judged (one .history) Z someReply r → r .number ≡ 12 → (Figure 16 × Figure 28 × (1 ≤ 4) × (4 ≤ 6000) × (1 ≤ 4) × (4 ≤ 6000) × Figure 0 × Figure 0 × (100 ≤ 60000) × (101 ≤ 4000000000) × (1 < 32)) × (12 ≤ 101) × (9 < 11) × (part (r .reply) replyMarginAt 4 ≡ 254 ∷ 255 ∷ 255 ∷ 255 ∷ []) × (1 < 2147483648)
+one-delaying : (r : Result) → OfBlock (one .history) Z r → r .number ≡ 12 → (Figure 16 × Figure 28 × (1 ≤ 4) × (4 ≤ 6000) × (1 ≤ 4) × (4 ≤ 6000) × Figure 0 × Figure 0 × (100 ≤ 60000) × (101 ≤ 4000000000) × (1 < 32)) × (12 ≤ 101) × (9 < 11) × (part (r .reply) replyMarginAt 4 ≡ 254 ∷ 255 ∷ 255 ∷ 255 ∷ []) × (1 < 2147483648)
 unfolding readRow opened oneCalls one X Y Z started afterCall outcome afterAll
-one-delaying r j = delaying (one .history) Z refl r j (omega arith) (leb-true _ _ (refl {a = true}))
+one-delaying r j = delaying (Whole Z) (one .history) (blockOf Z) refl r j (omega arith) (leb-true _ _ (refl {a = true}))
 
-one-delaying-back : (r : Result) → Judged (one .history) Z someReply r → r .number ≡ 12
+one-delaying-back : (r : Result) → OfBlock (one .history) Z r → r .number ≡ 12
 unfolding readRow opened oneCalls one X Y Z started afterCall outcome afterAll
-one-delaying-back r j = delaying-back (one .history) Z refl r j (considered (one .history) Z refl (leb-true _ _ (refl {a = true})) (refl {a = true}) (refl {a = true}) (refl {a = true}) (leb-true _ _ (refl {a = true})) (leb-true _ _ (refl {a = true})) (leb-true _ _ (refl {a = true}))) (leb-true _ _ (refl {a = true})) (leb-true _ _ (refl {a = true}))
+one-delaying-back r j = delaying-back (Whole Z) (one .history) (blockOf Z) refl r j (considered (Whole Z) (one .history) (blockOf Z) refl (leb-true _ _ (refl {a = true})) (refl {a = true}) (refl {a = true}) (refl {a = true}) (leb-true _ _ (refl {a = true})) (leb-true _ _ (refl {a = true})) (leb-true _ _ (refl {a = true}))) (leb-true _ _ (refl {a = true})) (leb-true _ _ (refl {a = true}))
 
 -- All of it of quotes and of offers: the calls return 0, 11 and 12.
 one-quotes : Figure 0 × Figure 11 × Figure 12
@@ -188,7 +196,7 @@ pub long-allowed : AllAllowed (opened 8) longCalls
 unfolding longCalls
 long-allowed = (tt, (tt, tt))
 
-long-in-step : InStep long
+pub long-in-step : InStep long
 unfolding opened long
 long-in-step = claims .by-history 8 (omega arith) (omega arith) someImage refl someReply refl longCalls long-allowed
 
@@ -198,31 +206,31 @@ unfolding readRow opened longCalls long order P Q started afterCall outcome afte
 long-image = (ap (λ (image : List ℕ). word image clockAt) (long-in-step .image-is), ap (λ s. s .clock) (long-in-step .read-back))
 
 -- An order of cost 1 everywhere with due-in 10: the first has the bound 9 and is due at 12, the second 10 and 11.
-long-taken : (r : Result) → Judged (long .history) (P 10) someReply r → r .number ≡ 0 → (Figure 16 × Figure 28 × (1 ≤ 1) × (1 ≤ 6000) × (1 ≤ 1) × (1 ≤ 6000) × Figure 0 × Figure 0 × (10 ≤ 60000) × (11 ≤ 4000000000) × (1 < 32)) × ((9 ≤ 12) × (10 ≤ 11)) × (word (r .reply) replyTickAt ≡ 10) × (part (r .reply) replyMarginAt 4 ≡ 1 ∷ 0 ∷ 0 ∷ 0 ∷ []) × (1 < 2147483648)
+long-taken : (r : Result) → OfBlock (long .history) (P 10) r → r .number ≡ 0 → (Figure 16 × Figure 28 × (1 ≤ 1) × (1 ≤ 6000) × (1 ≤ 1) × (1 ≤ 6000) × Figure 0 × Figure 0 × (10 ≤ 60000) × (11 ≤ 4000000000) × (1 < 32)) × ((9 ≤ 12) × (10 ≤ 11)) × (word (r .reply) replyTickAt ≡ 10) × (part (r .reply) replyMarginAt 4 ≡ 1 ∷ 0 ∷ 0 ∷ 0 ∷ []) × (1 < 2147483648)
 unfolding readRow opened longCalls long order P Q started afterCall outcome afterAll
-long-taken r j = taken (long .history) (P 10) refl r j (omega arith)
+long-taken r j = taken (Whole (P 10)) (long .history) (blockOf (P 10)) refl r j (omega arith)
 
-long-taken-back : (r : Result) → Judged (long .history) (P 10) someReply r → r .number ≡ 0
+long-taken-back : (r : Result) → OfBlock (long .history) (P 10) r → r .number ≡ 0
 unfolding readRow opened longCalls long order P Q started afterCall outcome afterAll
-long-taken-back r j = taken-back (long .history) (P 10) refl r j (considered (long .history) (P 10) refl (leb-true _ _ (refl {a = true})) (refl {a = true}) (refl {a = true}) (refl {a = true}) (leb-true _ _ (refl {a = true})) (leb-true _ _ (refl {a = true})) (leb-true _ _ (refl {a = true}))) (leb-true _ _ (refl {a = true})) (leb-true _ _ (refl {a = true}))
+long-taken-back r j = taken-back (Whole (P 10)) (long .history) (blockOf (P 10)) refl r j (considered (Whole (P 10)) (long .history) (blockOf (P 10)) refl (leb-true _ _ (refl {a = true})) (refl {a = true}) (refl {a = true}) (refl {a = true}) (leb-true _ _ (refl {a = true})) (leb-true _ _ (refl {a = true})) (leb-true _ _ (refl {a = true}))) (leb-true _ _ (refl {a = true})) (leb-true _ _ (refl {a = true}))
 
 -- With due-in 8 it is due at 9.
-long-late : (r : Result) → Judged (long .history) (P 8) someReply r → r .number ≡ 11 → (Figure 16 × Figure 28 × (1 ≤ 1) × (1 ≤ 6000) × (1 ≤ 1) × (1 ≤ 6000) × Figure 0 × Figure 0 × (8 ≤ 60000) × (9 ≤ 4000000000) × (1 < 32)) × (9 < 10) × (part (r .reply) replyMarginAt 4 ≡ 255 ∷ 255 ∷ 255 ∷ 255 ∷ []) × (0 < 2147483648)
+long-late : (r : Result) → OfBlock (long .history) (P 8) r → r .number ≡ 11 → (Figure 16 × Figure 28 × (1 ≤ 1) × (1 ≤ 6000) × (1 ≤ 1) × (1 ≤ 6000) × Figure 0 × Figure 0 × (8 ≤ 60000) × (9 ≤ 4000000000) × (1 < 32)) × (9 < 10) × (part (r .reply) replyMarginAt 4 ≡ 255 ∷ 255 ∷ 255 ∷ 255 ∷ []) × (0 < 2147483648)
 unfolding readRow opened longCalls long order P Q started afterCall outcome afterAll
-long-late r j = late (long .history) (P 8) refl r j (omega arith)
+long-late r j = late (Whole (P 8)) (long .history) (blockOf (P 8)) refl r j (omega arith)
 
-long-late-back : (r : Result) → Judged (long .history) (P 8) someReply r → r .number ≡ 11
+long-late-back : (r : Result) → OfBlock (long .history) (P 8) r → r .number ≡ 11
 unfolding readRow opened longCalls long order P Q started afterCall outcome afterAll
-long-late-back r j = late-back (long .history) (P 8) refl r j (considered (long .history) (P 8) refl (leb-true _ _ (refl {a = true})) (refl {a = true}) (refl {a = true}) (refl {a = true}) (leb-true _ _ (refl {a = true})) (leb-true _ _ (refl {a = true})) (leb-true _ _ (refl {a = true}))) (leb-true _ _ (refl {a = true}))
+long-late-back r j = late-back (Whole (P 8)) (long .history) (blockOf (P 8)) refl r j (considered (Whole (P 8)) (long .history) (blockOf (P 8)) refl (leb-true _ _ (refl {a = true})) (refl {a = true}) (refl {a = true}) (refl {a = true}) (leb-true _ _ (refl {a = true})) (leb-true _ _ (refl {a = true})) (leb-true _ _ (refl {a = true}))) (leb-true _ _ (refl {a = true}))
 
 -- One of cost 3 everywhere has the bound 26 and is due at 101; the first would have the bound 25.
-long-delaying : (r : Result) → Judged (long .history) Q someReply r → r .number ≡ 12 → (Figure 16 × Figure 28 × (1 ≤ 3) × (3 ≤ 6000) × (1 ≤ 3) × (3 ≤ 6000) × Figure 0 × Figure 0 × (100 ≤ 60000) × (101 ≤ 4000000000) × (1 < 32)) × (26 ≤ 101) × (12 < 25) × (part (r .reply) replyMarginAt 4 ≡ 243 ∷ 255 ∷ 255 ∷ 255 ∷ []) × (12 < 2147483648)
+long-delaying : (r : Result) → OfBlock (long .history) Q r → r .number ≡ 12 → (Figure 16 × Figure 28 × (1 ≤ 3) × (3 ≤ 6000) × (1 ≤ 3) × (3 ≤ 6000) × Figure 0 × Figure 0 × (100 ≤ 60000) × (101 ≤ 4000000000) × (1 < 32)) × (26 ≤ 101) × (12 < 25) × (part (r .reply) replyMarginAt 4 ≡ 243 ∷ 255 ∷ 255 ∷ 255 ∷ []) × (12 < 2147483648)
 unfolding readRow opened longCalls long order P Q started afterCall outcome afterAll
-long-delaying r j = delaying (long .history) Q refl r j (omega arith) (leb-true _ _ (refl {a = true}))
+long-delaying r j = delaying (Whole Q) (long .history) (blockOf Q) refl r j (omega arith) (leb-true _ _ (refl {a = true}))
 
-long-delaying-back : (r : Result) → Judged (long .history) Q someReply r → r .number ≡ 12
+long-delaying-back : (r : Result) → OfBlock (long .history) Q r → r .number ≡ 12
 unfolding readRow opened longCalls long order P Q started afterCall outcome afterAll
-long-delaying-back r j = delaying-back (long .history) Q refl r j (considered (long .history) Q refl (leb-true _ _ (refl {a = true})) (refl {a = true}) (refl {a = true}) (refl {a = true}) (leb-true _ _ (refl {a = true})) (leb-true _ _ (refl {a = true})) (leb-true _ _ (refl {a = true}))) (leb-true _ _ (refl {a = true})) (leb-true _ _ (refl {a = true}))
+long-delaying-back r j = delaying-back (Whole Q) (long .history) (blockOf Q) refl r j (considered (Whole Q) (long .history) (blockOf Q) refl (leb-true _ _ (refl {a = true})) (refl {a = true}) (refl {a = true}) (refl {a = true}) (leb-true _ _ (refl {a = true})) (leb-true _ _ (refl {a = true})) (leb-true _ _ (refl {a = true}))) (leb-true _ _ (refl {a = true})) (leb-true _ _ (refl {a = true}))
 
 -- All of it of quotes and of offers: the calls return 0, 11 and 12.
 long-quotes : Figure 0 × Figure 11 × Figure 12

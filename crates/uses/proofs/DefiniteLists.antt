@@ -6,6 +6,7 @@ use mathlib.Core.Bool.{true}
 use mathlib.Core.List.{List, [], _∷_, List·Memᴰ}
 use mathlib.Core.Option.{none, some, Option·some-injective, Option·some-ne-none}
 use Prim.Native.Nat.{ℕ}
+use native.Mathlib.Omega.{arith}
 use lib.ListN.{length, getD}
 use borrow.Author.Tests.{eqb-false, leb-true}
 use Rattle.model.specs.Admission.{blockOf}
@@ -14,8 +15,9 @@ use Rattle.model.specs.History.{Entry, entering, isAt, outAt}
 use Rattle.model.specs.Runs.{Run, started, outcome, afterCall, afterAll, AllAllowed}
 use Rattle.model.specs.Table.{readRow}
 use Rattle.model.specs.Cases.{order, X, Y}
+use Rattle.model.specs.FormatCases.{byFormat, twoStations}
 use Rattle.claims.specs.Demand3.{InTime, Kept}
-use Rattle.uses.specs.DefiniteLists.{someImage, someReply, opened, mixedCalls, reversedCalls, halfwayCalls, eightCalls, mixed, reversed, halfway, eight}
+use Rattle.uses.specs.DefiniteLists.{someImage, someReply, opened, mixedCalls, reversedCalls, halfwayCalls, eightCalls, formatCalls, allStations, eightFormatCalls, formats, eightFormats, mixed, reversed, halfway, eight}
 use Rattle.uses.proofs.Words.{of-two}
 
 -- The order with place i among those accepted in a run.
@@ -178,5 +180,77 @@ eight-kept =
     record {
       opened = refl {a = 0};
       orders = λ e m. of-two (InTime eight) (entry eight 0) (entry eight 1) eight-first eight-second e (subst (λ (l : List Entry). List·Memᴰ e l) eight-two m);
+      replies = (λ e. refl {a = 1}, (λ e. refl {a = 2}, (λ e. (refl {a = 0}, refl {a = 1}), (λ e. (refl {a = 0}, refl {a = 2}), (λ e. (refl {a = 0}, refl {a = 3}), (λ e. (refl {a = 0}, refl {a = 4}), (λ e. (refl {a = 0}, refl {a = 5}), (λ e. (refl {a = 0}, refl {a = 6}), (λ e. (refl {a = 0}, refl {a = 7}), (λ e. (refl {a = 1}, refl {a = 8}), tt))))))))));
+    }
+
+-- ---- by format: A3 is X and out at 5, A5 is Y and out at 7
+pub formats-allowed : AllAllowed (opened 2) formatCalls
+unfolding formatCalls
+formats-allowed = (tt, (tt, (tt, (tt, (tt, (tt, (tt, (tt, (tt, (tt, (tt, tt)))))))))))
+
+formats-first : InTime formats (entry formats 0)
+unfolding readRow opened formatCalls formats twoStations byFormat started afterCall outcome afterAll
+formats-first =
+    record {
+      out-in-time = out-at _ 5 (leb-true _ _ (refl {a = true}), leb-true _ _ (refl {a = true}));
+      live-in-time = not-live;
+      can-advance = not-live;
+    }
+
+formats-second : InTime formats (entry formats 1)
+unfolding readRow opened formatCalls formats twoStations byFormat started afterCall outcome afterAll
+formats-second =
+    record {
+      out-in-time = out-at _ 7 (leb-true _ _ (refl {a = true}), leb-true _ _ (refl {a = true}));
+      live-in-time = not-live;
+      can-advance = not-live;
+    }
+
+formats-two : formats .history .orders ≡ entry formats 0 ∷ entry formats 1 ∷ []
+unfolding readRow opened formatCalls formats twoStations byFormat started afterCall outcome afterAll
+formats-two = refl
+
+pub formats-kept : Kept someImage 2 someReply formatCalls
+unfolding readRow opened formatCalls formats twoStations byFormat started afterCall outcome afterAll isAt outAt
+formats-kept =
+    record {
+      opened = refl {a = 0};
+      orders = λ e m. of-two (InTime formats) (entry formats 0) (entry formats 1) formats-first formats-second e (subst (λ (l : List Entry). List·Memᴰ e l) formats-two m);
+      replies = (λ e. refl {a = 1}, (λ e. absurd (omega (arith, e)), (tt, (λ e. refl {a = 2}, (λ e. (refl {a = 0}, refl {a = 1}), (λ e. (refl {a = 0}, refl {a = 2}), (λ e. (refl {a = 0}, refl {a = 3}), (λ e. (refl {a = 0}, refl {a = 4}), (λ e. (refl {a = 1}, refl {a = 5}), (λ e. (refl {a = 0}, refl {a = 6}), (λ e. (refl {a = 2}, refl {a = 7}), tt)))))))))));
+    }
+
+-- ---- eight stations, the first order by format: it is out at 8, and the other waits at station 8
+pub eight-formats-allowed : AllAllowed (opened 8) eightFormatCalls
+unfolding eightFormatCalls
+eight-formats-allowed = (tt, (tt, (tt, (tt, (tt, (tt, (tt, (tt, (tt, (tt, tt))))))))))
+
+eight-formats-first : InTime eightFormats (entry eightFormats 0)
+unfolding readRow opened eightFormatCalls eightFormats order allStations byFormat started afterCall outcome afterAll
+eight-formats-first =
+    record {
+      out-in-time = out-at _ 8 (leb-true _ _ (refl {a = true}), leb-true _ _ (refl {a = true}));
+      live-in-time = not-live;
+      can-advance = not-live;
+    }
+
+eight-formats-second : InTime eightFormats (entry eightFormats 1)
+unfolding readRow opened eightFormatCalls eightFormats order allStations byFormat started afterCall outcome afterAll
+eight-formats-second =
+    record {
+      out-in-time = λ t. not-out;
+      live-in-time = λ q. (leb-true _ _ (refl {a = true}), leb-true _ _ (refl {a = true}));
+      can-advance = λ q reply e. advance-by-length (eightFormats .image) reply someReply e ∙ refl {a = 0};
+    }
+
+eight-formats-two : eightFormats .history .orders ≡ entry eightFormats 0 ∷ entry eightFormats 1 ∷ []
+unfolding readRow opened eightFormatCalls eightFormats order allStations byFormat started afterCall outcome afterAll
+eight-formats-two = refl
+
+pub eight-formats-kept : Kept someImage 8 someReply eightFormatCalls
+unfolding readRow opened eightFormatCalls eightFormats order allStations byFormat started afterCall outcome afterAll isAt outAt
+eight-formats-kept =
+    record {
+      opened = refl {a = 0};
+      orders = λ e m. of-two (InTime eightFormats) (entry eightFormats 0) (entry eightFormats 1) eight-formats-first eight-formats-second e (subst (λ (l : List Entry). List·Memᴰ e l) eight-formats-two m);
       replies = (λ e. refl {a = 1}, (λ e. refl {a = 2}, (λ e. (refl {a = 0}, refl {a = 1}), (λ e. (refl {a = 0}, refl {a = 2}), (λ e. (refl {a = 0}, refl {a = 3}), (λ e. (refl {a = 0}, refl {a = 4}), (λ e. (refl {a = 0}, refl {a = 5}), (λ e. (refl {a = 0}, refl {a = 6}), (λ e. (refl {a = 0}, refl {a = 7}), (λ e. (refl {a = 1}, refl {a = 8}), tt))))))))));
     }

@@ -9,9 +9,10 @@ use Rattle.model.specs.History.{isAt, outAt}
 use Rattle.model.specs.Runs.{started, outcome, afterCall, afterAll}
 use Rattle.model.specs.Table.{readRow}
 use Rattle.model.specs.Cases.{order, X, Y}
+use Rattle.model.specs.FormatCases.{byFormat, twoStations}
 use Rattle.claims.specs.Demand3.{Kept}
-use Rattle.uses.specs.DefiniteLists.{someImage, someReply, opened, mixedCalls, halfwayCalls, eightCalls, mixed, halfway, eight}
-use Rattle.uses.proofs.DefiniteLists.{entry, mixed-allowed, halfway-allowed, eight-allowed}
+use Rattle.uses.specs.DefiniteLists.{someImage, someReply, opened, mixedCalls, halfwayCalls, eightCalls, formatCalls, allStations, eightFormatCalls, formats, eightFormats, mixed, halfway, eight}
+use Rattle.uses.proofs.DefiniteLists.{entry, mixed-allowed, halfway-allowed, eight-allowed, formats-allowed, eight-formats-allowed}
 use Rattle.claims.proofs.Claims.{claims}
 use Rattle.uses.proofs.Words.{Figure}
 
@@ -67,3 +68,31 @@ orders-8 =
 advance-8 : Figure 1 × Figure 8
 unfolding readRow opened eightCalls order started afterCall outcome afterAll isAt outAt
 advance-8 = kept-8 .replies .1 .1 .1 .1 .1 .1 .1 .1 .1 .0 refl
+
+-- ---- by format: N = 2, both orders out; N = 8, one out and one live
+formats-2 : Kept someImage 2 someReply formatCalls
+formats-2 = claims .due-times 2 (omega arith) (omega arith) someImage refl someReply refl formatCalls (unfold opened in formats-allowed)
+
+format-out-2 : ((5 ≤ 7) × (5 ≤ 20)) × ((7 ≤ 7) × (7 ≤ 7))
+unfolding readRow opened formatCalls formats byFormat twoStations started afterCall outcome afterAll
+format-out-2 =
+    (formats-2 .orders (entry formats 0) (List·Memᴰ·head refl) .out-in-time 5 refl, formats-2 .orders (entry formats 1) (List·Memᴰ·tail (List·Memᴰ·head refl)) .out-in-time 7 refl)
+
+-- The replies of both offers: ticket 1, ticket 2.
+format-replies-2 : Figure 1 × Figure 2
+unfolding readRow opened formatCalls byFormat twoStations started afterCall outcome afterAll isAt outAt
+format-replies-2 = let r = formats-2 .replies in (r .0 refl, r .1 .1 .1 .0 refl)
+
+formats-8 : Kept someImage 8 someReply eightFormatCalls
+formats-8 = claims .due-times 8 (omega arith) (omega arith) someImage refl someReply refl eightFormatCalls (unfold opened in eight-formats-allowed)
+
+format-orders-8 : ((8 ≤ 9) × (8 ≤ 9)) × ((8 < 9) × (8 < 9) × Advances (eightFormats .image))
+unfolding readRow opened eightFormatCalls eightFormats order byFormat allStations started afterCall outcome afterAll
+format-orders-8 =
+    let second = formats-8 .orders (entry eightFormats 1) (List·Memᴰ·tail (List·Memᴰ·head refl)) in
+    let below = second .live-in-time refl in
+    (formats-8 .orders (entry eightFormats 0) (List·Memᴰ·head refl) .out-in-time 8 refl, (below .0, below .1, second .can-advance refl))
+
+format-reply-8 : Figure 1
+unfolding readRow opened eightFormatCalls order byFormat allStations started afterCall outcome afterAll
+format-reply-8 = formats-8 .replies .0 refl

@@ -5,6 +5,7 @@ pub mod DueTimes
 pub mod Progress
 pub mod ByHistory
 pub mod Offers
+pub mod Formats
 pub mod Ticks
 pub mod Advances
 pub mod Served

@@ -20,7 +20,7 @@ use Rattle.model.specs.Layout.{clockAt, blockSize, replyTickAt, replyMarginAt}
 use Rattle.model.specs.Image.{marked, decode}
 use Rattle.model.specs.Soundness.{costsInRange, zeroBeyond, sound}
 use Rattle.model.specs.Admission.{blockOf, dueOf, arrival, joinedBy, joinedLive}
-use Rattle.model.specs.Calls.{offerNumber, offerCall, opening, quoting, offering, advancing}
+use Rattle.model.specs.Calls.{offerNumber, quoteCall, offerCall, opening, quoting, offering, advancing}
 use Rattle.model.specs.Runs.{started, outcome, afterCall, afterAll}
 use Rattle.model.specs.Table.{readRow, lent}
 use Rattle.model.specs.Cases.{X, Y}
@@ -30,7 +30,7 @@ use Rattle.image_laws.specs.Usable.{Usable}
 use Rattle.call_laws.specs.OpenExact.{OpenedAt}
 use Rattle.call_laws.specs.Considered.{Considered}
 use Rattle.call_laws.specs.OfferExact.{boundTickOf, InTime, Late, marginOf, ExactAt}
-use Rattle.call_laws.specs.OfferKept.{QuotedAt}
+use Rattle.call_laws.specs.OfferKept.{QuotedAs}
 use Rattle.call_laws.proofs.offers.Questions.{fitting}
 use Rattle.claims.proofs.Claims.{claims}
 use Rattle.uses.specs.DefiniteLists.{someImage, someReply, opened, oneCalls, one, Z}
@@ -167,7 +167,7 @@ unfolding readRow opened oneCalls one X Y Z started afterCall outcome afterAll
 one-delaying-back = delaying-back (one .image) Z one-bytes refl (at-one Z) (considered (one .image) Z one-usable refl (leb-true _ _ (refl {a = true})) (refl {a = true}) (refl {a = true}) (refl {a = true}) (refl {a = true}) (refl {a = true})) (leb-true _ _ (refl {a = true})) (leb-true _ _ (refl {a = true}))
 
 -- ---- a quote gives what the offer would, with ticket 0
-quoted : QuotedAt (one .image) (Y 7 5) someReply
+quoted : QuotedAs (one .image) (quoteCall (one .image) (Y 7 5) someReply) (offerCall (one .image) (Y 7 5) someReply)
 quoted = claims .quote-gives-offer (one .image) (Y 7 5) someReply
 
 quote-gives : Figure 0 × Figure 1 × Bytes (replicate 8 0 ++ (8 ∷ replicate 7 0))

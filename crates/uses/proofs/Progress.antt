@@ -10,10 +10,11 @@ use Rattle.model.specs.History.{Entry}
 use Rattle.model.specs.Runs.{started, outcome, afterCall, afterAll}
 use Rattle.model.specs.Table.{readRow}
 use Rattle.model.specs.Cases.{order, X, Y}
+use Rattle.model.specs.FormatCases.{byFormat}
 use Rattle.schedule.specs.Valid.{_∈_}
 use Rattle.claims.specs.Progress.{advances, AllWhole, Progressed}
-use Rattle.uses.specs.DefiniteLists.{someImage, someReply, opened, halfwayCalls, eightCalls, halfway, eight}
-use Rattle.uses.proofs.DefiniteLists.{entry, halfway-allowed, eight-allowed}
+use Rattle.uses.specs.DefiniteLists.{someImage, someReply, opened, halfwayCalls, eightCalls, allStations, eightFormatCalls, halfway, eight, eightFormats}
+use Rattle.uses.proofs.DefiniteLists.{entry, halfway-allowed, eight-allowed, eight-formats-allowed}
 use Rattle.claims.proofs.Claims.{claims}
 use Rattle.uses.proofs.Words.{Figure, of-two}
 
@@ -67,3 +68,16 @@ second-out-at =
 second-by-due : second-progressed .out .tick ≤ 9
 unfolding readRow opened eightCalls eight order started afterCall outcome afterAll
 second-by-due = second-progressed .out .by-due
+
+-- ---- N = 8, after an order by format: the other has one tick to its due tick, and is out at 9
+format-progressed : Progressed eightFormats (entry eightFormats 1) (replicate 1 someReply)
+unfolding readRow opened eightFormatCalls eightFormats order byFormat allStations started afterCall outcome afterAll
+format-progressed = claims .progress 8 (omega arith) (omega arith) someImage refl someReply refl eightFormatCalls (unfold opened in eight-formats-allowed) (entry eightFormats 1) (List·Memᴰ·tail (List·Memᴰ·head refl)) refl (replicate 1 someReply) (all-whole 1) refl
+
+format-all-done : Figure 0
+unfolding readRow opened eightFormatCalls eightFormats order byFormat allStations started afterCall outcome afterAll
+format-all-done = format-progressed .all-done .0
+
+format-by-due : format-progressed .out .tick ≤ 9
+unfolding readRow opened eightFormatCalls eightFormats order byFormat allStations started afterCall outcome afterAll
+format-by-due = format-progressed .out .by-due

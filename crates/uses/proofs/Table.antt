@@ -4,11 +4,13 @@ use mathlib.Core.Path.{_≡_, refl}
 use mathlib.Core.Bool.{true}
 use mathlib.Core.List.{List, [], _∷_}
 use Prim.Native.Nat.{ℕ}
-use lib.ListN.{length, getD, replicate}
+use lib.ListN.{length, take, getD, replicate}
 use lib.IntN.{pos, negsuc}
-use Rattle.model.specs.Calls.{offering, advancing}
+use Rattle.model.specs.Formats.{FormatOrder}
+use Rattle.model.specs.Calls.{offering, quotingFormat, offeringFormat, advancing}
 use Rattle.model.specs.Table.{Row, opens, gives, serving, outs, bounds, inStep, Hold}
 use Rattle.model.specs.Cases.{order, X, Y, accepts, late, advances, firstTwo, lateArrival, lateLive, ranksReversed, startsAtTwo, oneStation, eightStations, paperCases}
+use Rattle.model.specs.FormatCases.{sheetOf, byFormat, takes, refuses, tells, twoStations, firstTwoByFormat, lateByFormat, told, tenFormats, formatNumbers, formatCases}
 use Rattle.text.specs.Ascii.{ascii}
 use Rattle.plan_model.specs.Cases.{_prints_, isPrinted}
 use Rattle.claims.specs.WorkedCases.{paperTable}
@@ -24,6 +26,11 @@ counter =
 plans : (isPrinted (ascii "2\n10 10 2 3\n8 8 1 2\n" prints ascii "task base response verdict\n1 5 7 on-time\n2 4 7 on-time\n") ≡ true) × (isPrinted (ascii "2\n10 10 2 3\n8 7 1 2\n" prints ascii "task base response verdict\n1 5 7 on-time\n2 4 7 late\n") ≡ true)
 unfolding paperTable paperCases
 plans = let c = claims .worked-cases .1 .1 .1 .1 .1 .1 .1 in (c .0, c .1 .0)
+
+-- ---- those of orders by format
+byFormats : Hold firstTwoByFormat × Hold lateByFormat × Hold tenFormats × Hold formatNumbers
+unfolding paperTable paperCases formatCases
+byFormats = let c = claims .worked-cases .1 .1 .1 .1 .1 .1 .1 .1 .1 in (c .0, c .1 .0, c .1 .1 .0, c .1 .1 .1 .0)
 
 -- ---- their rows: an offer with its number, ticket, tick and margin; an advance with the ticket out and the clock
 abbrev rowAt : List Row → ℕ → Row
@@ -77,3 +84,29 @@ one-station = (refl, refl, refl)
 eight-stations : (rowAt eightStations 0 ≡ opens 8) × (rowAt eightStations 1 ≡ declinedBy (order 0 0 (replicate 8 6000)) 11 29999) × (rowAt eightStations 4 ≡ offered (order 48000 0 (replicate 8 6000)) 1 48000 0) × (rowAt eightStations 5 ≡ bounds (48000 ∷ []))
 unfolding eightStations accepts late
 eight-stations = (refl, refl, refl, refl)
+
+-- Document 02, (i): A3 and A5 as X and Y; each long side; and each number, 5 before 19 before 20 before 6.
+format-lengths : (length firstTwoByFormat ≡ 23) × (length lateByFormat ≡ 11) × (length tenFormats ≡ 12) × (length formatNumbers ≡ 17)
+unfolding firstTwoByFormat lateByFormat tenFormats formatNumbers
+format-lengths = (refl, refl, refl, refl)
+
+abbrev offeredFormat : FormatOrder → ℕ → ℕ → ℕ → Row
+offeredFormat f ticket tick margin = gives (offeringFormat f) 0 (record { ticket = ticket; tick = tick; margin = pos margin })
+
+abbrev refusedFormat : FormatOrder → ℕ → Row
+refusedFormat f number = gives (offeringFormat f) number (record { ticket = 0; tick = 0; margin = pos 0 })
+
+first-two-by-format : (rowAt firstTwoByFormat 2 ≡ offeredFormat (byFormat 3 20 0 twoStations) 1 5 15) × (rowAt firstTwoByFormat 5 ≡ offeredFormat (byFormat 5 7 5 twoStations) 2 7 0) × (rowAt firstTwoByFormat 20 ≡ outs (5 ∷ 7 ∷ []))
+unfolding firstTwoByFormat takes
+first-two-by-format = (refl, refl, refl)
+
+format-numbers : (rowAt formatNumbers 3 ≡ refusedFormat (byFormat 0 60001 0 (take 31 (sheetOf (65535 ∷ 1 ∷ []) (250 ∷ 0 ∷ [])))) 5) × (rowAt formatNumbers 8 ≡ refusedFormat (byFormat 257 60001 0 (sheetOf (65535 ∷ 1 ∷ []) (250 ∷ 0 ∷ []))) 19) × (rowAt formatNumbers 9 ≡ refusedFormat (byFormat 10 60001 0 (sheetOf (65535 ∷ 1 ∷ []) (250 ∷ 0 ∷ []))) 20) × (rowAt formatNumbers 12 ≡ refusedFormat (byFormat 3 60001 0 (sheetOf (1 ∷ 65535 ∷ []) (250 ∷ 250 ∷ []))) 6)
+unfolding formatNumbers refuses
+format-numbers = (refl, refl, refl, refl)
+
+abbrev sideTold : ℕ → ℕ → ℕ → Row
+sideTold format side margin = gives (quotingFormat (byFormat format 2000 0 (sheetOf [] (1 ∷ [])))) 0 (record { ticket = 0; tick = side; margin = pos margin })
+
+ten-formats : (rowAt tenFormats 1 ≡ sideTold 1 841 1159) × (rowAt tenFormats 3 ≡ sideTold 3 420 1580) × (rowAt tenFormats 6 ≡ sideTold 6 1000 1000) × (rowAt tenFormats 10 ≡ sideTold 10 250 1750)
+unfolding tenFormats told tells
+ten-formats = (refl, refl, refl, refl)

@@ -5,10 +5,11 @@ use lib.ListN.{replicate}
 use Rattle.model.specs.State.{fresh}
 use Rattle.model.specs.Layout.{imageSize, replySize}
 use Rattle.model.specs.Image.{encode}
-use Rattle.model.specs.Calls.{Call, opening, quoting, offering, advancing}
+use Rattle.model.specs.Calls.{Call, opening, quoting, offering, quotingFormat, offeringFormat, advancing}
 use Rattle.model.specs.Runs.{Lent, Run, started, afterAll}
 use Rattle.model.specs.Table.{lent}
 use Rattle.model.specs.Cases.{order, X, Y}
+use Rattle.model.specs.FormatCases.{sheetOf, byFormat, twoStations}
 
 -- The buffers that are lent to the opening call, and the run after it.
 abbrev pub someImage : List ℕ
@@ -48,6 +49,29 @@ halfwayCalls = whole (offering (X 20 0)) ∷ whole (offering (Y 7 5)) ∷ ticks 
 unfoldable pub eightCalls : List Lent
 unfolding order
 eightCalls = whole (offering (order 9 0 (replicate 8 1))) ∷ whole (offering (order 9 1 (replicate 8 1))) ∷ ticks 8
+
+-- N = 2, by format: A3 is X and A5 is Y (`twoStations`). A3 with due-in 20, one of no format, a late quote of A5, A5 with due-in 7, and seven advances.
+unfoldable pub formatCalls : List Lent
+unfolding byFormat twoStations
+formatCalls =
+    whole (offeringFormat (byFormat 3 20 0 twoStations)) ∷ whole (offeringFormat (byFormat 11 20 0 twoStations)) ∷ whole (quotingFormat (byFormat 5 6 5 twoStations))
+    ∷ whole (offeringFormat (byFormat 5 7 5 twoStations)) ∷ ticks 7
+
+-- N = 8, no fixed ticks, and 250 mm per tick everywhere: A5 has cost 1 at every station, and B2 cost 3. As `eightCalls`, the one by format and the other as a
+-- block.
+unfoldable pub allStations : List ℕ
+unfolding sheetOf
+allStations = sheetOf [] (replicate 8 250)
+
+unfoldable pub eightFormatCalls : List Lent
+unfolding order byFormat allStations
+eightFormatCalls = whole (offeringFormat (byFormat 5 9 0 allStations)) ∷ whole (offering (order 9 1 (replicate 8 1))) ∷ ticks 8
+
+unfoldable pub formats : Run
+formats = afterAll (opened 2) formatCalls
+
+unfoldable pub eightFormats : Run
+eightFormats = afterAll (opened 8) eightFormatCalls
 
 unfoldable pub mixed : Run
 mixed = afterAll (opened 2) mixedCalls

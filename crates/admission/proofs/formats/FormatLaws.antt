@@ -1,12 +1,12 @@
 -- The table of long sides by its entries, and a row that is filled up to a station.
 use mathlib.Core.Path.{_≡_, refl}
-use mathlib.Core.List.{List, _++_}
+use mathlib.Core.List.{_++_}
 use Prim.Native.Nat.{ℕ, zero, suc, _-_, _≤_, _<_}
 use native.Mathlib.Omega.{arith}
 use lib.ListN.{getD, replicate}
 use lib.Dec.{leb}
 use borrow.Author.Tests.{lt-ltb, le-ltb}
-use Rattle.model.specs.Limits.{maxStations, maxFormat}
+use Rattle.model.specs.Limits.{maxStations}
 use Rattle.model.specs.Lists.{all, upward}
 use Rattle.model.specs.Formats.{longSides, longSide, upToStation}
 use Rattle.image_laws.proofs.Tests.{leb-says, entries-say}

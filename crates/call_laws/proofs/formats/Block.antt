@@ -1,8 +1,7 @@
 -- The block that an order by format stands for: its rows by their entries, and the bytes that say it.
 use mathlib.Core.Path.{_≡_, refl, sym, ap, _∙_}
-use mathlib.Core.Logic.{_⊎_, inl, inr}
-use mathlib.Core.Bool.{Bool, true, false, cond}
-use mathlib.Core.List.{List, map}
+use mathlib.Core.Logic.{inl, inr}
+use mathlib.Core.Bool.{cond}
 use Prim.Native.Nat.{ℕ, zero, suc, _+_, _≤_, _<_}
 use native.Mathlib.Omega.{arith}
 use lib.ListN.{length, getD, List·getD-eq-default}
@@ -10,8 +9,8 @@ use lib.Dec.{leb, ltb}
 use borrow.Author.Tests.{leb-true, leb-false, ltb-true, ltb-false, le-leb, lt-leb}
 use Rattle.model.specs.declared.Block.{Block}
 use Rattle.model.specs.Limits.{maxStations}
-use Rattle.model.specs.Lists.{at, concat, upward}
-use Rattle.model.specs.Bytes.{eightBytes, eightHalves, twoBytes}
+use Rattle.model.specs.Lists.{at, concat}
+use Rattle.model.specs.Bytes.{eightBytes, eightHalves}
 use Rattle.model.specs.Layout.{blockSize}
 use Rattle.model.specs.Admission.{blockOf, blockBytes}
 use Rattle.model.specs.Formats.{FormatOrder, speeds, formatCost, upToStation, formatBlock}

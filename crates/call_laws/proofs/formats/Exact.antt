@@ -1,6 +1,6 @@
 -- What an offer and a quote by format return: the questions in turn, whose answers are facts. Where the order can be written as a block, they are the block's, and so
 -- is what the calls leave.
-use mathlib.Core.Path.{_≡_, refl, sym, ap, _∙_}
+use mathlib.Core.Path.{_≡_, refl, sym, _∙_}
 use mathlib.Core.Logic.{_⊎_, inl, inr, _≢_}
 use mathlib.Core.Bool.{Bool, true, false, _&&_, true≢false}
 use mathlib.Core.List.{List, [], _∷_, _++_}
@@ -11,27 +11,24 @@ use lib.Dec.{leb, eqb}
 use borrow.Author.Tests.{eq-eqb, ne-eqb, eqb-false, le-leb, lt-leb, leb-false}
 use Rattle.model.specs.declared.Block.{Block}
 use Rattle.model.specs.Limits.{maxStations, maxCost, maxDueIn, maxFormat}
-use Rattle.model.specs.Lists.{at, within, roundedUp, all}
+use Rattle.model.specs.Lists.{at, within, all}
 use Rattle.model.specs.Bytes.{eightHalves}
-use Rattle.model.specs.State.{State}
 use Rattle.model.specs.Layout.{sheetSize, blockSize}
 use Rattle.model.specs.Image.{decode}
-use Rattle.model.specs.Soundness.{stationCountInRange, costsInRange, zeroBeyond, sound}
+use Rattle.model.specs.Soundness.{costsInRange, zeroBeyond}
 use Rattle.model.specs.Questions.{Question, _else_, firstNo}
-use Rattle.model.specs.Admission.{blockOf, blockBytes, blockLengthQuestion, blockQuestions, stateQuestions, orderQuestions}
-use Rattle.model.specs.Formats.{FormatOrder, fixedTicks, speeds, longSides, longSide, formatCost, formatBlock, formatQuestions, formatOrderQuestions}
-use Rattle.model.specs.Calls.{result, replyQuestion, lengthQuestion, imageQuestions, offered, quoted, offerNumber, offerCall, quoteCall, formatNumber, offerFormatCall, quoteFormatCall}
-use Rattle.lists.proofs.Questions.{answer, gives-other, decides, passed, after, same-after, never}
+use Rattle.model.specs.Admission.{blockBytes, blockLengthQuestion, blockQuestions, stateQuestions, orderQuestions}
+use Rattle.model.specs.Formats.{FormatOrder, speeds, longSides, longSide, formatCost, formatBlock, formatQuestions, formatOrderQuestions}
+use Rattle.model.specs.Calls.{replyQuestion, lengthQuestion, imageQuestions, offerNumber, offerCall, quoteCall, formatNumber, offerFormatCall, quoteFormatCall}
+use Rattle.lists.proofs.Questions.{answer, gives-other, decides, after, same-after, never}
 use Rattle.lists.proofs.Rounding.{up-some}
 use Rattle.schedule.proofs.Laws.{test}
 use Rattle.image_laws.specs.Iff.{_⇔_}
-use Rattle.image_laws.specs.InRange.{halfLimit, wordLimit}
 use Rattle.image_laws.specs.Usable.{Usable}
 use Rattle.image_laws.proofs.Tests.{Says, leb-says, eqb-says, within-says, in-words, and-says, first-say, append-says}
 use Rattle.image_laws.proofs.Clauses.{zero-beyond, costs-say}
-use Rattle.image_laws.proofs.Facts.{sound-says}
 use Rattle.image_laws.proofs.Questions.{first-no, four-say}
-use Rattle.call_laws.specs.FormatExact.{Known, Unknown, Readable, Writable, FormatAt, FormatAsBlock}
+use Rattle.call_laws.specs.FormatExact.{Known, Unknown, Readable, Writable, FormatAsBlock}
 use Rattle.call_laws.proofs.offers.Questions.{Decided, few-stations}
 use Rattle.call_laws.proofs.formats.Block.{format-costs-eight, format-cost, format-beyond, few-moving, format-read, format-length}
 

@@ -1,6 +1,6 @@
 -- Questions 5, 19 and 20 as the code asks them, and the calls by format where these pass or one says "no".
 use mathlib.Core.Path.{_≡_, refl}
-use mathlib.Core.Bool.{Bool, true, false, _||_}
+use mathlib.Core.Bool.{true, false, _||_}
 use mathlib.Core.List.{List, _∷_, _++_}
 use Prim.Native.Nat.{ℕ}
 use lib.ListN.{length, take}
@@ -13,9 +13,9 @@ use Rattle.model.specs.Image.{decode}
 use Rattle.model.specs.Questions.{Question, firstNo}
 use Rattle.model.specs.Admission.{blockQuestions, stateQuestions}
 use Rattle.model.specs.Formats.{FormatOrder, speeds, formatBlock, formatQuestions, formatOrderQuestions}
-use Rattle.model.specs.Calls.{replyQuestion, lengthQuestion, imageQuestions, formatNumber, offerFormatCall, quoteFormatCall}
+use Rattle.model.specs.Calls.{replyQuestion, imageQuestions, formatNumber, offerFormatCall, quoteFormatCall}
 use Rattle.lists.proofs.Tests.{inside}
-use Rattle.lists.proofs.Questions.{answer, gives-other}
+use Rattle.lists.proofs.Questions.{gives-other}
 use Rattle.image_laws.specs.Usable.{Usable}
 use Rattle.call_laws.specs.FormatExact.{Readable}
 use Rattle.call_laws.proofs.offers.Questions.{few-stations}

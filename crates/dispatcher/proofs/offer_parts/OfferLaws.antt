@@ -11,7 +11,7 @@ use Rattle.model.specs.declared.Block.{Block}
 use Rattle.model.specs.Lists.{all}
 use Rattle.model.specs.Layout.{blockSize}
 use Rattle.model.specs.Image.{decode}
-use Rattle.model.specs.Questions.{Question, _else_, firstNo, zeros}
+use Rattle.model.specs.Questions.{Question, firstNo, zeros}
 use Rattle.model.specs.Admission.{blockOf, blockLengthQuestion, blockQuestions, stateQuestions, orderQuestions, offerAnswer, quoteAnswer}
 use Rattle.model.specs.Calls.{replyQuestion, lengthQuestion, imageQuestions, offered, quoted, offerNumber, offerCall, quoteCall}
 use Rattle.lists.proofs.Tests.{and-both, all-append}

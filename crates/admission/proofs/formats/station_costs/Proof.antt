@@ -4,7 +4,6 @@ use mathlib.Core.List.{_++_}
 use Prim.Native.Nat.{suc, _+_, _≤_, _-_}
 use native.Mathlib.Omega.{arith}
 use lib.ListN.{getD, replicate}
-use borrow.Author.Needs.{needs}
 use Rattle.model.specs.Lists.{at, roundedUp, upward}
 use Rattle.lists.proofs.Fills.{pad-start, pad-next}
 use Rattle.admission.specs.Formats.{heldCost}

@@ -1,7 +1,6 @@
 -- As a quote by format, by the offer's call.
 use mathlib.Core.Path.{_≡_, sym, _∙_}
 use mathlib.Core.List.{_∷_, _++_}
-use native.Mathlib.Omega.{arith}
 use borrow.Author.Needs.{needs}
 use Rattle.model.specs.Image.{decode}
 use Rattle.model.specs.Questions.{firstNo}

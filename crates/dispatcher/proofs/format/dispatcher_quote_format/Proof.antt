@@ -1,7 +1,6 @@
 -- The number first: one of those before the block declines, and with none of them the block decides that the order stands for.
 use mathlib.Core.Path.{_≡_, sym, _∙_}
 use mathlib.Core.List.{_∷_, _++_}
-use native.Mathlib.Omega.{arith}
 use borrow.Author.Needs.{needs}
 use Rattle.model.specs.Image.{decode}
 use Rattle.model.specs.Questions.{firstNo}
