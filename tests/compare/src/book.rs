@@ -4,6 +4,7 @@
 
 use crate::counts::Kind;
 use crate::desk::{Clerk, Lender};
+use crate::formats::FormatOrder;
 use crate::layout::{IMAGE_SIZE, MAX_STATIONS};
 use crate::level;
 use second_simulator::calls::Call;
@@ -24,13 +25,20 @@ pub fn list(clerk: &Clerk, kind: Kind, name: &str, seed: u64, calls: usize) {
         profile.rank = rng.pick(&[1, 5, 255]);
         profile.room = rng.range(1, 2);
     }
+    // The maker's format orders have costs of hundreds of ticks, whatever the profile says. In half of the lists they stay; in the others, and in
+    // the long ones, some of its blocks come by format, with the costs that they have.
+    // Drawn apart, so that the maker makes the same lists with them as without.
+    let mut other = Rng::new(!seed);
+    let by_format = matches!(kind, Kind::LongBook) || other.one_in(2);
+    if by_format { profile.format = 0; }
     let n = rng.range(1, MAX_STATIONS as u64) as u32;
     let mut maker = Maker { level: level(), rng, profile };
     let mut machine = clerk.clone();
     clerk.0.borrow_mut().begin(kind, name, &[NOISE; IMAGE_SIZE]);
     let mut run = Runner::new(level(), n, &mut machine).unwrap_or_else(|e| clerk.0.borrow().fail(&e));
     for k in 0..calls {
-        let lent = maker.next(&run.image);
+        let mut lent = maker.next(&run.image);
+        if by_format && other.one_in(3) { rewrite(&mut other, &mut lent.call, n as usize); }
         if let Err(e) = run.call(&lent) { clerk.0.borrow().fail(&format!("the run book: {e}")); }
         if k % 7 == 0 {
             clerk.0.borrow_mut().aside = true;
@@ -39,6 +47,13 @@ pub fn list(clerk: &Clerk, kind: Kind, name: &str, seed: u64, calls: usize) {
         }
     }
     clerk.0.borrow_mut().counts.book.add(&run.counts);
+}
+
+/// An order block that could be one by format becomes that.
+fn rewrite(rng: &mut Rng, call: &mut Call, n: usize) {
+    let (Call::Quote { order } | Call::Offer { order }) = &*call else { return };
+    let Some(by_format) = FormatOrder::of_block(rng, order, n) else { return };
+    *call = if call.reads_only() { by_format.quote() } else { by_format.offer() };
 }
 
 /// Keeps the book beside a list that was written: one that begins with an open that is done, and has no other image and no other open that is done.

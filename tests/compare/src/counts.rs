@@ -1,13 +1,15 @@
 //! What a comparison has seen, so that one that shows too little can be told.
 
+use crate::formats::{self, fixed_at, speed_at};
 use crate::layout::*;
 use second_simulator::bytes::{get16, get32};
 use second_simulator::calls::Call;
 use second_simulator::image::{flaws, mark_and_version, Clause};
 use second_simulator::list;
+use second_simulator::ops::LONG_SIDES;
 use std::collections::BTreeMap;
 
-pub const CALLS: [&str; 4] = ["open", "quote", "offer", "advance"];
+pub const CALLS: [&str; 6] = ["open", "quote", "offer", "quote_format", "offer_format", "advance"];
 /// The kinds of lists, by who makes them, and their names.
 #[derive(Clone, Copy)]
 pub enum Kind { Book, LongBook, Sound, Limits, Damage, Lengths }
@@ -17,8 +19,8 @@ impl Kind {
     pub fn name(self) -> &'static str { KINDS[self as usize] }
 }
 
-/// Numbers 0 to 14.
-const NUMBERS: usize = 15;
+/// Numbers 0 to 20.
+const NUMBERS: usize = 21;
 
 /// Clauses of soundness, in the simulator's words.
 pub const CLAUSES: [(Clause, &str); 20] = [
@@ -41,9 +43,13 @@ impl Default for Live {
 #[derive(Clone, Default)]
 pub struct Counts {
     /// calls by call and number
-    pub numbers: [[u64; NUMBERS]; 4],
+    pub numbers: [[u64; NUMBERS]; CALLS.len()],
     /// calls that got as far as question 5, by call and live orders
-    pub live: [Live; 4],
+    pub live: [Live; CALLS.len()],
+    /// calls of a format order that are done, by call and format
+    pub formats: [[u64; MAX_FORMAT as usize]; CALLS.len()],
+    /// those that the run book reads and that are accepted
+    pub book_formats: u64,
     /// starts, by N and station
     pub starts: [[u64; MAX_STATIONS]; MAX_STATIONS],
     /// orders out, by N
@@ -71,7 +77,9 @@ fn place(call: &Call) -> usize {
         Call::Open { .. } => 0,
         Call::Quote { .. } => 1,
         Call::Offer { .. } => 2,
-        _ => 3,
+        Call::QuoteFormat { .. } => 3,
+        Call::OfferFormat { .. } => 4,
+        _ => 5,
     }
 }
 
@@ -108,6 +116,7 @@ impl Counts {
             (1, _) => Some(("reply", reply.len())),
             (2, _) => Some(("image", before.len())),
             (5, Call::Quote { order } | Call::Offer { order }) => Some(("order", order.len())),
+            (5, Call::QuoteFormat { sheet, .. } | Call::OfferFormat { sheet, .. }) => Some(("sheet", sheet.len())),
             _ => None,
         };
         if let Some(wrong) = wrong { *self.lengths.entry(wrong).or_default() += 1; }
@@ -115,6 +124,11 @@ impl Counts {
         self.live[c].0[usize::from(before[LIVE_COUNT_AT])] += 1;
         match call {
             Call::Quote { order } | Call::Offer { order } => self.order(order, c == 2, before, number, reply),
+            Call::QuoteFormat { format, due_in, rank, sheet } | Call::OfferFormat { format, due_in, rank, sheet } => {
+                if number == 0 { self.formats[c][*format as usize - 1] += 1; }
+                self.book_formats += u64::from(number == 0 && c == 4 && matches!(kind, Kind::Book | Kind::LongBook));
+                self.format_order((*format, *due_in, *rank, sheet), before, number, reply);
+            }
             _ => self.advance(before, number, reply),
         }
     }
@@ -147,6 +161,61 @@ impl Counts {
             9 if usize::from(before[LIVE_COUNT_AT]) == MAX_LIVE => self.edge("9, and 32 live"),
             11 if margin == -1 => self.edge("11, margin -1"),
             12 if margin == -1 => self.edge("12, margin -1"),
+            _ => {}
+        }
+    }
+
+    fn format_order(&mut self, (format, due_in, rank, sheet): (u32, u32, u8, &[u8]), before: &[u8], number: u32, reply: &[u8]) {
+        if number == 5 { return; }
+        let n = usize::from(before[STATION_COUNT_AT]);
+        let (fixed, speed) = (|j| get16(sheet, fixed_at(j)), |j| get16(sheet, speed_at(j)));
+        let any_speed_0 = || (0..n).any(|j| speed(j) == 0);
+        // The costs, where there are any.
+        let costs = || (0..n).filter_map(|j| formats::cost(format, sheet, j));
+        let (most, wide) = (u32::from(MAX_COST), u32::from(u16::MAX));
+        let margin = get32(reply, REPLY_MARGIN_AT) as i32;
+        match number {
+            0 => {
+                let side = LONG_SIDES[format as usize - 1];
+                let rest = |j| side % u32::from(speed(j));
+                if margin == 0 { self.edge("format, done, margin 0"); }
+                if due_in == MAX_DUE_IN { self.edge("format, done, due-in 60,000"); }
+                if due_in == 0 { self.edge("format, done, due-in 0"); }
+                if rank == 0 { self.edge("format, done, rank 0"); }
+                if rank == u8::MAX { self.edge("format, done, rank 255"); }
+                if costs().any(|c| c == most) { self.edge("format, done, cost 6,000"); }
+                if costs().all(|c| c == 1) { self.edge("format, done, costs 1"); }
+                if (0..n).any(|j| fixed(j) == 0) { self.edge("format, done, fixed ticks 0"); }
+                if (0..n).any(|j| speed(j) == 1) { self.edge("format, done, speed 1"); }
+                if (0..n).any(|j| speed(j) == u16::MAX) { self.edge("format, done, speed 65,535"); }
+                if (0..n).any(|j| rest(j) == 0) { self.edge("format, done, nothing to round"); }
+                if (0..n).any(|j| rest(j) == 1) { self.edge("format, done, one millimetre rounded up"); }
+                if (n..MAX_STATIONS).any(|j| speed(j) == 0) { self.edge("format, done, speed 0 beyond N"); }
+                if (n..MAX_STATIONS).any(|j| fixed(j) > MAX_COST) { self.edge("format, done, fixed ticks above 6,000 beyond N"); }
+            }
+            19 => {
+                if format == 0 { self.edge("format, 19, format 0"); }
+                if format == MAX_FORMAT + 1 { self.edge("format, 19, format 11"); }
+                if format == 257 { self.edge("format, 19, format 257"); }
+                if format > 0x7fff_ffff { self.edge("format, 19, a format of 32 bits"); }
+                if any_speed_0() { self.edge("format, 19, and a speed of 0"); }
+                if (0..n).any(|j| fixed(j) > MAX_COST) { self.edge("format, 19, and a cost above 6,000"); }
+            }
+            20 => {
+                if speed(n - 1) == 0 && (0..n - 1).all(|j| speed(j) != 0) { self.edge("format, 20, speed 0 at N alone"); }
+                if costs().any(|c| c > most) { self.edge("format, 20, and a cost above 6,000"); }
+                if due_in > MAX_DUE_IN { self.edge("format, 20, and due-in above 60,000"); }
+            }
+            6 => {
+                if costs().all(|c| c <= most + 1) { self.edge("format, 6, cost 6,001"); }
+                if (0..n).any(|j| fixed(j) == u16::MAX) { self.edge("format, 6, fixed ticks 65,535"); }
+                if costs().all(|c| (1..=most).contains(&(c & wide))) { self.edge("format, 6, costs that two bytes would make good"); }
+                if due_in > MAX_DUE_IN { self.edge("format, 6, and due-in above 60,000"); }
+            }
+            7 if due_in == MAX_DUE_IN + 1 => self.edge("format, 7, due-in 60,001"),
+            7 if due_in == u32::MAX => self.edge("format, 7, due-in 4,294,967,295"),
+            11 if margin == -1 => self.edge("format, 11, margin -1"),
+            12 if margin == -1 => self.edge("format, 12, margin -1"),
             _ => {}
         }
     }
@@ -194,9 +263,10 @@ impl Counts {
 
     pub fn add(&mut self, o: &Counts) {
         fn sum(a: &mut [u64], b: &[u64]) { for (x, y) in a.iter_mut().zip(b) { *x += y; } }
-        for c in 0..4 {
+        for c in 0..CALLS.len() {
             sum(&mut self.numbers[c], &o.numbers[c]);
             sum(&mut self.live[c].0, &o.live[c].0);
+            sum(&mut self.formats[c], &o.formats[c]);
         }
         for n in 0..MAX_STATIONS { sum(&mut self.starts[n], &o.starts[n]); }
         sum(&mut self.out, &o.out);
@@ -204,6 +274,7 @@ impl Counts {
         sum(&mut self.calls, &o.calls);
         sum(&mut self.images, &o.images);
         sum(&mut self.alone, &o.alone);
+        self.book_formats += o.book_formats;
         if self.bytes.is_empty() { self.bytes.clone_from(&o.bytes); } else { sum(&mut self.bytes, &o.bytes); }
         for (wrong, count) in &o.lengths { *self.lengths.entry(*wrong).or_default() += count; }
         for (name, count) in &o.edges { *self.edges.entry(name).or_default() += count; }
@@ -223,6 +294,9 @@ impl Counts {
         for (c, call) in CALLS.iter().enumerate().skip(1) {
             for (live, count) in self.live[c].0.iter().enumerate() { say(format!("{call} with {live} live"), *count); }
         }
+        for (c, call) in CALLS.iter().enumerate().filter(|(_, call)| call.ends_with("_format")) {
+            for (k, count) in self.formats[c].iter().enumerate() { say(format!("{call} done with format {}", k + 1), *count); }
+        }
         for n in 0..MAX_STATIONS {
             for j in 0..=n { say(format!("start at station {} of {}", j + 1, n + 1), self.starts[n][j]); }
             say(format!("out with {} stations", n + 1), self.out[n]);
@@ -241,7 +315,8 @@ impl Counts {
         for (name, count) in &self.tables { say(format!("table {name}"), *count); }
         let b = &self.book;
         for (name, count) in [
-            ("calls", b.calls), ("ticks", b.ticks), ("accepted", b.accepted), ("out", b.out), ("most live", b.most_live), ("largest company", b.largest_company),
+            ("calls", b.calls), ("ticks", b.ticks), ("accepted", b.accepted), ("accepted by format", self.book_formats), ("out", b.out),
+            ("most live", b.most_live), ("largest company", b.largest_company),
             ("out exactly at its sum", b.tight), ("out exactly at its sum, with company", b.tight_with_company),
             ("out later than without the last maximum", b.later_than_less[0]), ("out later than without later company", b.later_than_less[1]),
         ] {
@@ -261,7 +336,9 @@ impl Counts {
             let seen = self.numbers[c].iter().enumerate().filter(|(_, count)| **count > 0);
             line(call, seen.map(|(number, count)| format!("{number}: {count}")).collect());
         }
-        let by_live = |live: usize| format!("{live}: {}", (1..4).map(|c| self.live[c].0[live]).sum::<u64>());
+        let by_format = |k: usize| format!("{}: {}", k + 1, self.formats.iter().map(|of_call| of_call[k]).sum::<u64>());
+        line("done by format", (0..MAX_FORMAT as usize).map(by_format).collect());
+        let by_live = |live: usize| format!("{live}: {}", (1..CALLS.len()).map(|c| self.live[c].0[live]).sum::<u64>());
         line("calls by live orders", (0..=MAX_LIVE).map(by_live).collect());
         line("images", vec![
             format!("{} sound", self.images[0]), format!("{} not sound", self.images[3]), format!("{} of another length", self.images[1]),
@@ -275,8 +352,9 @@ impl Counts {
         line("plan tables", self.tables.iter().map(|(name, count)| format!("{name} {count}")).collect());
         let b = &self.book;
         line("run book", vec![
-            format!("{} calls", b.calls), format!("{} ticks", b.ticks), format!("{} accepted", b.accepted), format!("{} out", b.out),
-            format!("{} of these exactly at the sum with others in company", b.tight_with_company),
+            format!("{} calls", b.calls), format!("{} ticks", b.ticks), format!("{} accepted", b.accepted),
+            format!("{} of these by format", self.book_formats), format!("{} out", b.out),
+            format!("{} of those exactly at the sum with others in company", b.tight_with_company),
             format!("{} and {} later than by a smaller sum", b.later_than_less[0], b.later_than_less[1]),
             format!("largest company {}", b.largest_company), format!("most live {}", b.most_live),
         ]);

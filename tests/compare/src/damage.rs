@@ -1,7 +1,8 @@
 //! Damaged images: one field at a limit or just beyond it, one bit flipped, or two of these; and the simulator's own list of damages, clause by clause.
 
 use crate::counts::Kind;
-use crate::desk::{Desk, Sheet};
+use crate::desk::{Desk, Series};
+use crate::formats::FormatOrder;
 use crate::layout::*;
 use crate::{level, limits};
 use second_simulator::bytes::{get16, get32, put16, put32};
@@ -96,22 +97,33 @@ fn hurt(rng: &mut Rng, state: &State, image: &mut [u8]) {
     }
 }
 
-/// Quote, advance and offer on an image. The order fits in three images of four; in the others a later question has a "no" as well. Some replies do not fit.
+/// Quote, advance and offer on an image, or in one of three quote_format, advance and offer_format. The order fits in three images of four; in the others a later
+/// question has a "no" as well. Some replies do not fit.
 fn probe(desk: &mut Desk, name: &str, image: Vec<u8>, rng: &mut Rng) {
     let n = usize::from(image[STATION_COUNT_AT]).clamp(1, MAX_STATIONS);
-    let mut order = block(level(), MAX_DUE_IN, &vec![1; n], &vec![1; n], 0);
-    match rng.below(12) {
-        0 => order.resize(rng.pick(&[0, BLOCK_SIZE - 1, BLOCK_SIZE + 1, 2 * BLOCK_SIZE]), 0),
-        1 => put16(&mut order, BLOCK_COSTS_AT, MAX_COST + 1),
-        2 => put32(&mut order, BLOCK_DUE_IN_AT, MAX_DUE_IN + 1),
-        _ => {}
-    }
-    let mut sheet = Sheet::new(desk, Kind::Damage, name, image);
-    let first = Call::Quote { order: order.clone() };
-    for call in [first, Call::Advance, Call::Offer { order }] {
+    let (quote, offer) = if rng.one_in(3) {
+        let mut order = FormatOrder::of_costs(rng, &vec![1; n], 1, MAX_DUE_IN);
+        match rng.below(12) {
+            0 => order.resize(rng.pick(&[0, SHEET_SIZE - 1, SHEET_SIZE + 1, BLOCK_SIZE])),
+            1 | 2 => order.push(rng, n),
+            _ => {}
+        }
+        (order.quote(), order.offer())
+    } else {
+        let mut order = block(level(), MAX_DUE_IN, &vec![1; n], &vec![1; n], 0);
+        match rng.below(12) {
+            0 => order.resize(rng.pick(&[0, BLOCK_SIZE - 1, BLOCK_SIZE + 1, 2 * BLOCK_SIZE]), 0),
+            1 => put16(&mut order, BLOCK_COSTS_AT, MAX_COST + 1),
+            2 => put32(&mut order, BLOCK_DUE_IN_AT, MAX_DUE_IN + 1),
+            _ => {}
+        }
+        (Call::Quote { order: order.clone() }, Call::Offer { order })
+    };
+    let mut series = Series::new(desk, Kind::Damage, name, image);
+    for call in [quote, Call::Advance, offer] {
         let length = if rng.one_in(30) { rng.pick(&[0, REPLY_SIZE - 1, REPLY_SIZE + 1]) } else { REPLY_SIZE };
         let reply = rng.bytes(length);
-        sheet.call(&call, reply);
+        series.call(&call, reply);
     }
 }
 

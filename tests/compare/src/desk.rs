@@ -18,11 +18,13 @@ pub struct Library {
     pub open: unsafe extern "C" fn(*mut u8, usize, u32, *mut u8, usize) -> u32,
     pub quote: unsafe extern "C" fn(*const u8, usize, *const u8, usize, *mut u8, usize) -> u32,
     pub offer: unsafe extern "C" fn(*mut u8, usize, *const u8, usize, *mut u8, usize) -> u32,
+    pub quote_format: unsafe extern "C" fn(*const u8, usize, u32, u32, u8, *const u8, usize, *mut u8, usize) -> u32,
+    pub offer_format: unsafe extern "C" fn(*mut u8, usize, u32, u32, u8, *const u8, usize, *mut u8, usize) -> u32,
     pub advance: unsafe extern "C" fn(*mut u8, usize, *mut u8, usize) -> u32,
     pub plan_text: unsafe extern "C" fn(*const u8, usize, *mut u8) -> usize,
 }
 
-/// Longest image and order block that are lent, and longest reply.
+/// Longest image, longest order block or sheet, and longest reply that are lent.
 const MOST_IMAGE: usize = 4096;
 const MOST_ORDER: usize = 1024;
 const MOST_REPLY: usize = 64;
@@ -30,10 +32,11 @@ const MOST_REPLY: usize = 64;
 pub struct Desk {
     library: Library,
     image: Room,
+    /// for the order block, or for the sheet of a format order
     order: Room,
     reply: Room,
     turn: u64,
-    /// every so many calls the order block, and the image of a quote, cannot be written while the library has them
+    /// every so many calls the order block or sheet, and the image of a quote, cannot be written while the library has them
     sealed: u64,
     /// the list so far: its first image, and its calls
     first: Vec<u8>,
@@ -51,6 +54,15 @@ pub struct Desk {
     /// where the list of a difference is written, if anywhere
     folder: Option<PathBuf>,
     pub counts: Counts,
+}
+
+/// What a call lends beside image and reply, to be read only: an order block or a sheet, and its name.
+fn order_of(call: &Call) -> Option<(&'static str, &[u8])> {
+    match call {
+        Call::Quote { order } | Call::Offer { order } => Some(("order block", order)),
+        Call::QuoteFormat { sheet, .. } | Call::OfferFormat { sheet, .. } => Some(("sheet", sheet)),
+        _ => None,
+    }
 }
 
 /// One who has lent buffers to the library, and can say what was being tried.
@@ -130,9 +142,9 @@ impl Desk {
             let at = self.image.bytes().iter().zip(image.iter()).position(|(a, b)| a != b).unwrap();
             self.fail(&format!("number {number}: byte {at} of the image is {} by the library, {} by the simulator", self.image.bytes()[at], image[at]));
         }
-        if let Call::Quote { order } | Call::Offer { order } = call {
-            if self.order.bytes() != order { self.fail("the order block was changed"); }
-            if !self.order.guarded() { self.fail("a byte beside the order block was written"); }
+        if let Some((name, order)) = order_of(call) {
+            if self.order.bytes() != order { self.fail(&format!("the {name} was changed")); }
+            if !self.order.guarded() { self.fail(&format!("a byte beside the {name} was written")); }
         }
         if !self.image.guarded() { self.fail("a byte beside the image was written"); }
         if !self.reply.guarded() { self.fail("a byte beside the reply was written"); }
@@ -149,7 +161,7 @@ impl Desk {
         let guard = if turn.wrapping_mul(0x9e37_79b9_7f4a_7c15) >> 63 == 0 { 0xc3 } else { 0x3c };
         let (i, il) = (self.image.lend(image, turn % PLACES, guard), image.len());
         let (r, rl) = (self.reply.lend(reply, turn / PLACES % PLACES, guard), reply.len());
-        let order: &[u8] = if let Call::Quote { order } | Call::Offer { order } = call { order } else { &[] };
+        let order = order_of(call).map_or(&[][..], |(_, order)| order);
         let (o, ol) = (self.order.lend(order, turn / (PLACES * PLACES) % PLACES, guard), order.len());
         let sealed = (turn + 1) % self.sealed == 0;
         if sealed {
@@ -162,6 +174,8 @@ impl Desk {
                 Call::Open { stations } => (self.library.open)(i, il, *stations, r, rl),
                 Call::Quote { .. } => (self.library.quote)(i, il, o, ol, r, rl),
                 Call::Offer { .. } => (self.library.offer)(i, il, o, ol, r, rl),
+                Call::QuoteFormat { format, due_in, rank, .. } => (self.library.quote_format)(i, il, *format, *due_in, *rank, o, ol, r, rl),
+                Call::OfferFormat { format, due_in, rank, .. } => (self.library.offer_format)(i, il, *format, *due_in, *rank, o, ol, r, rl),
                 Call::Advance => (self.library.advance)(i, il, r, rl),
                 other => unreachable!("the library has no {other:?}"),
             }
@@ -210,16 +224,16 @@ impl Machine for Clerk {
 }
 
 /// A list of calls on one image after another, for those who make lists.
-pub struct Sheet<'d> {
+pub struct Series<'d> {
     desk: &'d mut Desk,
     pub image: Vec<u8>,
 }
 
-impl<'d> Sheet<'d> {
-    pub fn new(desk: &'d mut Desk, kind: Kind, name: &str, image: Vec<u8>) -> Sheet<'d> {
+impl<'d> Series<'d> {
+    pub fn new(desk: &'d mut Desk, kind: Kind, name: &str, image: Vec<u8>) -> Series<'d> {
         desk.counts.image(&image);
         desk.begin(kind, name, &image);
-        Sheet { desk, image }
+        Series { desk, image }
     }
 
     pub fn call(&mut self, call: &Call, mut reply: Vec<u8>) -> u32 { self.desk.call(call, &mut self.image, &mut reply) }

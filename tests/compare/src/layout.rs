@@ -3,6 +3,7 @@
 
 use crate::level;
 use second_simulator::image as simulated;
+use second_simulator::ops::LONG_SIDES;
 
 pub const IMAGE_SIZE: usize = 2128;
 pub const MARK: &[u8; 3] = b"WMC";
@@ -74,7 +75,7 @@ pub fn check() {
         ("VERSION", usize::from(VERSION), usize::from(at.version())), ("DEFAULT_DUE_IN", DEFAULT_DUE_IN as usize, at.default_due_in() as usize),
         ("MAX_STATIONS", MAX_STATIONS, simulated::MAX_STATIONS), ("MAX_COST", usize::from(MAX_COST), simulated::MAX_COST as usize),
         ("MAX_DUE_IN", MAX_DUE_IN as usize, simulated::MAX_DUE_IN as usize), ("MAX_LIVE", MAX_LIVE, simulated::MAX_LIVE),
-        ("LAST_TICK", LAST_TICK as usize, simulated::CLOCK_END as usize),
+        ("LAST_TICK", LAST_TICK as usize, simulated::CLOCK_END as usize), ("MAX_FORMAT", MAX_FORMAT as usize, LONG_SIDES.len()),
     ];
     for (name, ours, theirs) in figures {
         if ours != theirs {

@@ -1,7 +1,8 @@
 //! Sound images near every limit, each with an order that is aimed at an edge of on time: the newcomer's, or that of a live order which it delays.
 
 use crate::counts::Kind;
-use crate::desk::{Desk, Sheet};
+use crate::desk::{Desk, Series};
+use crate::formats::FormatOrder;
 use crate::layout::*;
 use crate::level;
 use second_simulator::bytes::{put16, put32};
@@ -181,8 +182,13 @@ impl Aim {
         block(level(), due_in as u32, &self.ranks[..n], &self.costs[..n], 0)
     }
 
-    /// The order, with a due-in at an edge.
-    pub fn order(&self, rng: &mut Rng) -> Vec<u8> {
+    /// The same by its format, with the rank of station 1 for all.
+    fn by_format(&self, rng: &mut Rng, due_in: u64) -> FormatOrder {
+        FormatOrder::of_costs(rng, &self.costs[..self.state.n], self.ranks[0], due_in as u32)
+    }
+
+    /// A due-in at an edge.
+    fn due_in(&self, rng: &mut Rng) -> u64 {
         let (end, most) = (u64::from(LAST_TICK - self.state.clock), u64::from(MAX_DUE_IN));
         let due_in = match rng.below(12) {
             0 => self.sum - 1,
@@ -194,8 +200,26 @@ impl Aim {
             6 => rng.pick(&[1, u64::from(DEFAULT_DUE_IN) - 1, DEFAULT_DUE_IN.into(), most - 1, most + 1, 65_536]),
             _ => most,
         };
-        let due_in = if due_in > most + 1 && !rng.one_in(20) { most } else { due_in };
+        if due_in > most + 1 && !rng.one_in(20) { most } else { due_in }
+    }
+
+    /// The order, with a due-in at an edge.
+    pub fn order(&self, rng: &mut Rng) -> Vec<u8> {
+        let due_in = self.due_in(rng);
         self.block(due_in)
+    }
+
+    /// The same by its format.
+    pub fn format_order(&self, rng: &mut Rng) -> FormatOrder {
+        let due_in = self.due_in(rng);
+        self.by_format(rng, due_in)
+    }
+
+    /// The order by its format, with one or two things at a limit or beyond it.
+    pub fn odd_format_order(&self, rng: &mut Rng) -> FormatOrder {
+        let mut order = self.by_format(rng, MAX_DUE_IN.into());
+        for _ in 0..rng.pick(&[1, 1, 2]) { order.push(rng, self.state.n); }
+        order
     }
 
     /// The order with one thing at a limit or beyond it.
@@ -225,19 +249,24 @@ pub fn unit(desk: &mut Desk, name: &str, seed: u64) {
     for _ in 0..20 {
         let aim = aim(&mut rng);
         let image = encode(level(), &aim.state);
-        let mut sheet = Sheet::new(desk, Kind::Limits, name, image);
+        let mut series = Series::new(desk, Kind::Limits, name, image);
         for k in 0..20 {
-            // At first the aimed order, while the image is the one that it was aimed at.
-            let call = match if k < 4 { rng.below(6) } else { rng.below(16) } {
-                0 | 1 => Call::Quote { order: aim.order(&mut rng) },
-                2 | 3 => Call::Offer { order: aim.order(&mut rng) },
-                4 => Call::Quote { order: aim.odd_order(&mut rng) },
-                5 => Call::Offer { order: aim.odd_order(&mut rng) },
+            // At first the aimed order, while the image is the one that it was aimed at. One in four comes by its format.
+            let which = if k < 4 { rng.below(6) } else { rng.below(16) };
+            let call = match (which, rng.one_in(4)) {
+                (0 | 1, false) => Call::Quote { order: aim.order(&mut rng) },
+                (2 | 3, false) => Call::Offer { order: aim.order(&mut rng) },
+                (4, false) => Call::Quote { order: aim.odd_order(&mut rng) },
+                (5, false) => Call::Offer { order: aim.odd_order(&mut rng) },
+                (0 | 1, true) => aim.format_order(&mut rng).quote(),
+                (2 | 3, true) => aim.format_order(&mut rng).offer(),
+                (4, true) => aim.odd_format_order(&mut rng).quote(),
+                (5, true) => aim.odd_format_order(&mut rng).offer(),
                 _ => Call::Advance,
             };
             let length = if rng.one_in(40) { rng.pick(&[0, REPLY_SIZE - 1, REPLY_SIZE + 1]) } else { REPLY_SIZE };
             let reply = rng.bytes(length);
-            sheet.call(&call, reply);
+            series.call(&call, reply);
         }
     }
 }
