@@ -12,6 +12,10 @@
 uint32_t right_open(uint8_t *image, size_t image_len, uint32_t stations, uint8_t *reply, size_t reply_len);
 uint32_t right_quote(const uint8_t *image, size_t image_len, const uint8_t *order, size_t order_len, uint8_t *reply, size_t reply_len);
 uint32_t right_offer(uint8_t *image, size_t image_len, const uint8_t *order, size_t order_len, uint8_t *reply, size_t reply_len);
+uint32_t right_quote_format(const uint8_t *image, size_t image_len, uint32_t format, uint32_t due_in, uint8_t rank, const uint8_t *sheet, size_t sheet_len,
+                            uint8_t *reply, size_t reply_len);
+uint32_t right_offer_format(uint8_t *image, size_t image_len, uint32_t format, uint32_t due_in, uint8_t rank, const uint8_t *sheet, size_t sheet_len,
+                            uint8_t *reply, size_t reply_len);
 uint32_t right_advance(uint8_t *image, size_t image_len, uint8_t *reply, size_t reply_len);
 size_t right_plan_text(const uint8_t *input, size_t input_len, uint8_t *out);
 size_t plan_probe_text(const uint8_t *input, size_t input_len, uint8_t *out);
@@ -326,6 +330,267 @@ uint32_t dispatcher_quote(const uint8_t *image, size_t image_len, const uint8_t 
 uint32_t dispatcher_offer(uint8_t *image, size_t image_len, const uint8_t *order, size_t order_len, uint8_t *reply, size_t reply_len)
 {
     return ordered(1, image, image_len, order, order_len, reply, reply_len);
+}
+
+/* An order by its paper format. */
+struct formatted {
+    uint32_t format, due_in;
+    uint8_t rank, sheet[SHEET_SIZE];
+};
+
+/* Where a sheet has the figures of a station, counted from 1. */
+#define FIXED_AT(station) (SHEET_FIXED_AT + 2 * ((station) - 1))
+#define SPEED_AT(station) (SHEET_SPEEDS_AT + 2 * ((station) - 1))
+
+/* The sides of ISO 216 in millimetres, A1 to A5 and B1 to B5. */
+static const unsigned long_sides[MAX_FORMAT] = {841, 594, 420, 297, 210, 1000, 707, 500, 353, 250};
+static const unsigned short_sides[MAX_FORMAT] = {594, 420, 297, 210, 148, 707, 500, 353, 250, 176};
+
+/* Gives a station another cost: that of paper which takes one tick at this speed, and the rest fixed. What no two bytes hold, and 0, is 6,001: both get 6. */
+static void put_cost(uint8_t *sheet, unsigned station, unsigned cost)
+{
+    put2(sheet + FIXED_AT(station), (cost < 1 || cost > MAX_COST ? MAX_COST + 1 : cost) - 1);
+    put2(sheet + SPEED_AT(station), 0xffff);
+}
+
+/* The cost at a station as the fault has it. The speed is not 0. */
+static unsigned miscounted(const struct formatted *o, unsigned station)
+{
+    unsigned fixed = get2(o->sheet + FIXED_AT(station)), speed = get2(o->sheet + SPEED_AT(station)), side = long_sides[o->format - 1];
+    unsigned right = fixed + (side + speed - 1) / speed;
+    switch (fault()) {
+    case 74: /* the long side of A3 is 421 mm */
+        return o->format == DISPATCHER_FORMAT_A3 ? fixed + (421 + speed - 1) / speed : right;
+    case 75: /* the long side of B4 is 352 mm */
+        return o->format == DISPATCHER_FORMAT_B4 ? fixed + (352 + speed - 1) / speed : right;
+    case 76: /* the long side of B5 is that of A5 */
+        return o->format == DISPATCHER_FORMAT_B5 ? fixed + (210 + speed - 1) / speed : right;
+    case 77: /* the cost is rounded down */
+        return fixed + side / speed;
+    case 78: /* a cost without a rest is one too large */
+        return fixed + side / speed + 1;
+    case 79: /* the short side is divided */
+        return fixed + (short_sides[o->format - 1] + speed - 1) / speed;
+    case 80: /* the cost is cut to two bytes */
+        return right & 0xffff;
+    case 81: /* the fixed ticks are read where the speeds are */
+        return right - fixed + speed;
+    case 82: /* the fixed ticks are those of station 1 at every station */
+        return right - fixed + get2(o->sheet + FIXED_AT(1));
+    case 83: /* the fixed ticks are kept in one byte */
+        return right - (fixed & 0xff00);
+    case 84: /* a cost of 6,001 that comes of a sheet is taken */
+        return right == MAX_COST + 1 ? MAX_COST : right;
+    case 85: /* paper that is shorter than the speed takes no tick beside fixed ones */
+        return speed > side && fixed > 0 ? fixed : right;
+    default:
+        return right;
+    }
+}
+
+/* The format order as the fault reads it, with a sheet of the right length, at N stations. */
+static void misread_format(struct formatted *o, unsigned n)
+{
+    switch (fault()) {
+    case 86: /* only the low byte of the format is read */
+        o->format &= 255;
+        break;
+    case 87: /* a rank that is not 0 is dropped */
+        o->rank = 0;
+        break;
+    case 88: /* a format order's due-in 0 stands for 60,000 ticks */
+        if (o->due_in == 0)
+            o->due_in = MAX_DUE_IN;
+        break;
+    case 89: /* a format order's due-in is read as two bytes */
+        o->due_in &= 0xffff;
+        break;
+    case 90: /* a speed of 0 at station 8 stands for 1 */
+        if (n == MAX_STATIONS && get2(o->sheet + SPEED_AT(MAX_STATIONS)) == 0)
+            put2(o->sheet + SPEED_AT(MAX_STATIONS), 1);
+        break;
+    case 91: /* a speed whose low byte is 0 is taken for 0 */
+        for (unsigned j = 1; j <= n; j++)
+            if (o->sheet[SPEED_AT(j)] == 0)
+                put2(o->sheet + SPEED_AT(j), 0);
+        break;
+    default:
+        break;
+    }
+    if (fault() < 74 || fault() > 85 || o->format < 1 || o->format > MAX_FORMAT)
+        return;
+    /* All costs first: one of them may be made of another station's figures. */
+    unsigned costs[MAX_STATIONS];
+    for (unsigned j = 1; j <= n; j++)
+        costs[j - 1] = get2(o->sheet + SPEED_AT(j)) == 0 ? 0 : miscounted(o, j);
+    for (unsigned j = 1; j <= n; j++)
+        if (get2(o->sheet + SPEED_AT(j)) != 0)
+            put_cost(o->sheet, j, costs[j - 1]);
+}
+
+/* A speed of 0 from one station up to another; fixed ticks there that no cost can have. */
+static int speed_0(const uint8_t *sheet, unsigned from, unsigned to)
+{
+    for (unsigned j = from; j <= to; j++)
+        if (get2(sheet + SPEED_AT(j)) == 0)
+            return 1;
+    return 0;
+}
+
+static int fixed_above(const uint8_t *sheet, unsigned from, unsigned to, unsigned most)
+{
+    for (unsigned j = from; j <= to; j++)
+        if (get2(sheet + FIXED_AT(j)) > most)
+            return 1;
+    return 0;
+}
+
+/* Quote_format and offer_format. */
+static uint32_t ordered_by_format(int offer, uint8_t *image, size_t image_len, uint32_t format, uint32_t due_in, uint8_t rank, const uint8_t *sheet,
+                                  size_t sheet_len, uint8_t *reply, size_t reply_len)
+{
+    struct formatted read = {format, due_in, rank, {0}};
+    uint8_t trial[IMAGE_SIZE];
+    if (fault() == 92 && sheet_len > 0) { /* a byte behind the sheet is read */
+        volatile uint8_t behind = sheet[sheet_len];
+        (void)behind;
+    }
+    if (fault() == 93 && sheet_len == SHEET_SIZE) /* the sheet is written and put back as it was */
+        *(volatile uint8_t *)(uintptr_t)sheet = sheet[0];
+    if (fault() == 94 && !offer && image_len == IMAGE_SIZE) /* quote_format writes the image and puts it back as it was */
+        *(volatile uint8_t *)(image + CLOCK_AT) = image[CLOCK_AT];
+    if (fault() == 95 && offer && reply_len == REPLY_SIZE + 1) /* offer_format writes a reply that is a byte too long */
+        memset(reply, 0, REPLY_SIZE);
+    if (fault() == 96 && sheet_len == SHEET_SIZE + 1) /* a sheet that is a byte too long is taken */
+        sheet_len = SHEET_SIZE;
+    if (fault() == 97 && sheet_len == SHEET_SIZE - 1) { /* a sheet that is a byte too short is taken, with a zero for that byte */
+        memcpy(read.sheet, sheet, sheet_len);
+        sheet = read.sheet;
+        sheet_len = SHEET_SIZE;
+    }
+    if (reply_len != REPLY_SIZE || image_len != IMAGE_SIZE)
+        return offer ? right_offer_format(image, image_len, format, due_in, rank, sheet, sheet_len, reply, reply_len)
+                     : right_quote_format(image, image_len, format, due_in, rank, sheet, sheet_len, reply, reply_len);
+    memcpy(trial, image, IMAGE_SIZE);
+    unsigned n = image[STATION_COUNT_AT], live = image[LIVE_COUNT_AT];
+    int whole = sheet_len == SHEET_SIZE;
+    if (whole) {
+        memmove(read.sheet, sheet, SHEET_SIZE);
+        if (n >= 1 && n <= MAX_STATIONS)
+            misread_format(&read, n);
+    }
+    uint32_t number = right_offer_format(trial, IMAGE_SIZE, read.format, read.due_in, read.rank, whole ? read.sheet : sheet, sheet_len, reply, REPLY_SIZE);
+    uint32_t ticket = get4(reply + REPLY_TICKET_AT);
+    if (number == 0 && !offer)
+        put4(reply + REPLY_TICKET_AT, 0);
+    /* Every question about the image, the sheet's length, the format and the speeds is answered by yes. */
+    int good = number == 0 || (number >= 6 && number <= 12), accepted = number == 0 && offer;
+    switch (fault()) {
+    case 98: /* 19 and 20 are exchanged */
+        if (number == 19 || number == 20)
+            number = declined(39 - number, reply);
+        break;
+    case 99: /* question 20 is asked before question 19 */
+        if (number == 19 && speed_0(sheet, 1, n))
+            number = declined(20, reply);
+        break;
+    case 100: /* question 6 is asked before question 19 */
+        if (number == 19 && fixed_above(sheet, 1, n, MAX_COST))
+            number = declined(6, reply);
+        break;
+    case 101: /* question 6 is asked before question 20 */
+        if (number == 20 && fixed_above(sheet, 1, n, MAX_COST))
+            number = declined(6, reply);
+        break;
+    case 102: /* question 7 is asked before question 20 */
+        if (number == 20 && due_in > MAX_DUE_IN)
+            number = declined(7, reply);
+        break;
+    case 103: /* question 19 is asked before question 5 */
+        if (number == 5 && (format < 1 || format > MAX_FORMAT))
+            number = declined(19, reply);
+        break;
+    case 104: /* question 19 is asked before question 4 */
+        if (number == 4 && (format < 1 || format > MAX_FORMAT))
+            number = declined(19, reply);
+        break;
+    case 105: /* question 5 is asked of a sheet before question 4 */
+        if (number == 4 && !whole)
+            number = declined(5, reply);
+        break;
+    case 106: /* B5 is refused by 19 */
+        if (good && format == DISPATCHER_FORMAT_B5)
+            number = declined(19, reply), accepted = 0;
+        break;
+    case 107: /* a speed of 0 beyond N is refused */
+        if (good && speed_0(sheet, n + 1, MAX_STATIONS))
+            number = declined(20, reply), accepted = 0;
+        break;
+    case 108: /* fixed ticks beyond N are refused by 6 */
+        if (good && fixed_above(sheet, n + 1, MAX_STATIONS, 0))
+            number = declined(6, reply), accepted = 0;
+        break;
+    case 109: /* a format order's rank is written beyond N, too */
+        if (accepted)
+            memset(record(trial, live) + RANKS_AT + n, rank, MAX_STATIONS - n);
+        break;
+    case 110: /* a format order's rank is written at station 1 alone */
+        if (accepted)
+            memset(record(trial, live) + RANK_AT(1) + 1, 0, n - 1);
+        break;
+    case 111: /* quote_format gives the ticket */
+        if (number == 0 && !offer)
+            put4(reply + REPLY_TICKET_AT, ticket);
+        break;
+    case 112: /* quote_format accepts the order */
+        if (number == 0)
+            accepted = 1;
+        break;
+    case 113: /* offer_format accepts nothing */
+        accepted = 0;
+        break;
+    case 114: /* a decline by 20 changes the image */
+        if (number == 20 && offer)
+            image[CLOCK_AT] ^= 1;
+        break;
+    case 115: /* a decline of a format order by 12 changes the image */
+        if (number == 12 && offer)
+            image[NEXT_AT] ^= 1;
+        break;
+    case 116: /* a byte of the sheet is changed after 19 */
+        if (number == 19)
+            ((uint8_t *)(uintptr_t)sheet)[SHEET_SIZE - 1] ^= 1;
+        break;
+    case 117: /* the byte before the sheet is written */
+        if (accepted)
+            ((uint8_t *)(uintptr_t)sheet)[-1] = 0;
+        break;
+    case 118: /* after 19 the reply has the format behind the number */
+        if (number == 19)
+            put4(reply + REPLY_TICKET_AT, format);
+        break;
+    case 119: /* the margin with which a format order is late is not told */
+        if (number == 11)
+            put4(reply + REPLY_MARGIN_AT, 0);
+        break;
+    default:
+        break;
+    }
+    if (accepted)
+        memcpy(image, trial, IMAGE_SIZE);
+    return number;
+}
+
+uint32_t dispatcher_quote_format(const uint8_t *image, size_t image_len, uint32_t format, uint32_t due_in, uint8_t rank, const uint8_t *sheet, size_t sheet_len,
+                                 uint8_t *reply, size_t reply_len)
+{
+    return ordered_by_format(0, (uint8_t *)(uintptr_t)image, image_len, format, due_in, rank, sheet, sheet_len, reply, reply_len);
+}
+
+uint32_t dispatcher_offer_format(uint8_t *image, size_t image_len, uint32_t format, uint32_t due_in, uint8_t rank, const uint8_t *sheet, size_t sheet_len,
+                                 uint8_t *reply, size_t reply_len)
+{
+    return ordered_by_format(1, image, image_len, format, due_in, rank, sheet, sheet_len, reply, reply_len);
 }
 
 /* Of the orders that wait at a station: the one that goes first, or none. */
