@@ -1,9 +1,9 @@
 /* fuzz: one input of bytes, read as an image and a list of calls on it, answered by the library and by the second simulator.
  *
- * Each call gets the same image, order block and reply buffer on both sides. The number that is returned, every byte of the image and every byte of the reply
- * must be the same; the order block, and the image of a quote and of a call that is declined, must be as they were; and nothing may be touched outside of the
- * buffers: each stands against a page that may not be touched, at its end or at its start, with guard bytes on the other side. The next call gets the image as
- * this one left it. The first difference prints both results and ends the program by abort().
+ * Each call gets the same image, order block or sheet, and reply buffer on both sides. The number that is returned, every byte of the image and every byte of
+ * the reply must be the same; the order block or sheet, and the image of a quote and of a call that is declined, must be as they were; and nothing may be
+ * touched outside of the buffers: each stands against a page that may not be touched, at its end or at its start, with guard bytes on the other side. The next
+ * call gets the image as this one left it. The first difference prints both results and ends the program by abort().
  *
  * Compiled as it is, it is the replayer: `replay [--complete] FILE..` makes the calls of each file and prints how many calls gave which number. With --complete
  * it fails unless every number of every call has occurred, among others. Compiled with afl-clang-fast and -DFUZZ it is the program that AFL++ runs; there the
@@ -35,15 +35,22 @@
  *         1, 2 or 4 bytes for 0 and 3
  *     calls, up to the end of the input. 1 byte: bits 0 to 1: 0 advance, 1 offer, 2 quote, 3 open; and
  *         bit 2     it is made more than once: 1 byte follows, how often less 1
- *         bit 3     odd lengths: 3 bytes follow, for image, order and reply; each mod 8 stands for a length (`lengths`), 7 for 2 bytes that say it
- *         bit 4     the order block by its bytes and not by a row
+ *         bit 3     odd lengths: 3 bytes follow, for image, order or sheet, and reply; each mod 8 stands for a length (`lengths`), 7 for 2 bytes that say it
+ *         bit 4     for offer and quote: the order block by its bytes and not by a row. In place of advance it is then offer_format, and quote_format in place
+ *                   of open
  *         bit 5     the bytes of the reply before the call, as many as it has; otherwise they are a pattern
  *         bit 6     the buffers stand at the start of their rooms and not at the end; a buffer of length 0 is lent by a pointer to nothing and not by NULL
- *         bit 7     a patch comes last. For offer and quote it is one of the order block: 1 byte where, mod its length, and 1 byte exclusive or. For advance
- *                   and open it is one of the image, as above, and is taken back if the call is declined
+ *         bit 7     a patch comes last. For offers and quotes it is one of the order block or sheet: 1 byte where, mod its length, and 1 byte exclusive or. For
+ *                   advance and open it is one of the image, as above, and is taken back if the call is declined
  *         then for offer and quote the order block: by its bytes, or
  *             1 byte    bits 0 to 1 the row, mod rows; bits 2 to 3 the due-in: 0 by 2 bytes, 1 by 4 bytes, 2 60,000,
  *                       3 by 1 byte, signed, that is added to the smallest which is on time, as the simulator has it
+ *         for offer_format and quote_format
+ *             1 byte    the format, and 4 more if that is 255
+ *             1 byte    the rank
+ *             1 byte    bits 0 to 3 as for an order block; bit 4: the sheet by its bytes and not by the row
+ *             the sheet: by its bytes; or 2 bytes, the speed of each of the N stations, whose fixed ticks are the row's costs less 1, with zeros beyond N
+ *             the due-in, as for an order block
  *         for open the number of stations: 1 byte, and 4 more if that is 255
  *         then the bytes of the reply, if bit 5 says so */
 #define _DEFAULT_SOURCE
@@ -63,11 +70,13 @@
 
 /* ---- who answers ---- */
 
-/* The four calls under the names of `name`: those of the second simulator, and of the library with its edges traced. */
+/* The calls under the names of `name`: those of the second simulator, and of the library with its edges traced. */
 #define CALLS_OF(name)                                                                                                                                         \
     uint32_t name##_open(uint8_t *, size_t, uint32_t, uint8_t *, size_t);                                                                                      \
     uint32_t name##_quote(const uint8_t *, size_t, const uint8_t *, size_t, uint8_t *, size_t);                                                                \
     uint32_t name##_offer(uint8_t *, size_t, const uint8_t *, size_t, uint8_t *, size_t);                                                                      \
+    uint32_t name##_quote_format(const uint8_t *, size_t, uint32_t, uint32_t, uint8_t, const uint8_t *, size_t, uint8_t *, size_t);                            \
+    uint32_t name##_offer_format(uint8_t *, size_t, uint32_t, uint32_t, uint8_t, const uint8_t *, size_t, uint8_t *, size_t);                                  \
     uint32_t name##_advance(uint8_t *, size_t, uint8_t *, size_t);
 CALLS_OF(simulator)
 #ifdef FUZZ
@@ -79,13 +88,16 @@ struct side {
     uint32_t (*open)(uint8_t *, size_t, uint32_t, uint8_t *, size_t);
     uint32_t (*quote)(const uint8_t *, size_t, const uint8_t *, size_t, uint8_t *, size_t);
     uint32_t (*offer)(uint8_t *, size_t, const uint8_t *, size_t, uint8_t *, size_t);
+    uint32_t (*quote_format)(const uint8_t *, size_t, uint32_t, uint32_t, uint8_t, const uint8_t *, size_t, uint8_t *, size_t);
+    uint32_t (*offer_format)(uint8_t *, size_t, uint32_t, uint32_t, uint8_t, const uint8_t *, size_t, uint8_t *, size_t);
     uint32_t (*advance)(uint8_t *, size_t, uint8_t *, size_t);
 };
+#define SIDE(text, name) {text, name##_open, name##_quote, name##_offer, name##_quote_format, name##_offer_format, name##_advance}
 static const struct side sides[] = {
-    {"second simulator", simulator_open, simulator_quote, simulator_offer, simulator_advance},
-    {"library", dispatcher_open, dispatcher_quote, dispatcher_offer, dispatcher_advance},
+    SIDE("second simulator", simulator),
+    SIDE("library", dispatcher),
 #ifdef FUZZ
-    {"library, traced", traced_open, traced_quote, traced_offer, traced_advance},
+    SIDE("library, traced", traced),
 #endif
 };
 #define SIDES (sizeof sides / sizeof *sides)
@@ -137,13 +149,15 @@ static uint8_t *pointer(const struct buffer *b, int at_start)
 
 /* ---- one call ---- */
 
-enum { ADVANCE, OFFER, QUOTE, OPEN, CALLS };
-static const char *const names[CALLS] = {"advance", "offer", "quote", "open"};
-static const uint32_t numbers_of[CALLS] = {0x201f, 0x1fff, 0x1fff, 0x4007}; /* bit k: the call may give the number k */
+enum { ADVANCE, OFFER, QUOTE, OPEN, OFFER_FORMAT, QUOTE_FORMAT, CALLS };
+static const char *const names[CALLS] = {"advance", "offer", "quote", "open", "offer_format", "quote_format"};
+static const uint32_t numbers_of[CALLS] = {0x201f, 0x1fff, 0x1fff, 0x4007, 0x181fff, 0x181fff}; /* bit k: the call may give the number k */
+#define NUMBERS (DISPATCHER_BAD_SPEED + 1)
 
-/* The call, its arguments, and the image, which stays from call to call. */
+/* The call, its arguments, and the image, which stays from call to call. A sheet is lent where an order block would be. */
 static int which, at_start;
-static uint32_t stations;
+static uint32_t stations, format, format_due_in;
+static uint8_t format_rank;
 static uint8_t image[LONGEST], order[LONGEST], reply[LONGEST];
 static size_t image_length, order_length, reply_length;
 
@@ -153,14 +167,15 @@ struct result {
 };
 
 /* What has been seen, over all inputs. */
-static unsigned long made, inputs, seen[CALLS][15], offers_at[MAX_LIVE + 1], advances_at[MAX_LIVE + 1], outs, moves, starts;
+static unsigned long made, inputs, seen[CALLS][NUMBERS], formats_done[MAX_FORMAT + 1], offers_at[MAX_LIVE + 1], advances_at[MAX_LIVE + 1], outs, moves, starts;
 static const char *input_name = "the input";
 static unsigned long made_before;
 
-/* What AFL++ is told beside the edges of the library, so that it keeps an input that is the first with it: call, number and N; and the live orders before a
- * done offer or advance. To AFL++ these are edges like the others: they stand in the same section. */
-#define PAIRS (CALLS * 15 * (MAX_STATIONS + 2))
-#define MARKS (PAIRS + 2 * (MAX_LIVE + 1))
+/* What AFL++ is told beside the edges of the library, so that it keeps an input that is the first with it: call, number and N; the live orders before a
+ * done offer or advance; and the format of a done offer. To AFL++ these are edges like the others: they stand in the same section. */
+#define PAIRS (CALLS * NUMBERS * (MAX_STATIONS + 2))
+#define FORMATS (PAIRS + 2 * (MAX_LIVE + 1))
+#define MARKS (FORMATS + MAX_FORMAT + 1)
 static uint8_t marked[MARKS], marked_here[MARKS]; /* in any input; in this one, where each counts once */
 static unsigned long marks;
 #ifdef FUZZ
@@ -178,6 +193,17 @@ static void mark(size_t at)
 #ifdef FUZZ
     __sanitizer_cov_trace_pc_guard(&guards[at]);
 #endif
+}
+
+static int by_format(void)
+{
+    return which == OFFER_FORMAT || which == QUOTE_FORMAT;
+}
+
+/* An offer or a quote. */
+static int ordering(void)
+{
+    return by_format() || which == OFFER || which == QUOTE;
 }
 
 static uint32_t smaller(uint32_t a, uint32_t b)
@@ -206,8 +232,10 @@ static void differ(const char *text, const struct side *side, const struct resul
            (unsigned long)reply_length, at_start ? "at the start" : "at the end");
     if (which == OPEN)
         printf("    stations %lu\n", (unsigned long)stations);
-    if (which == OFFER || which == QUOTE)
-        print_bytes("order", order, order_length);
+    if (by_format())
+        printf("    format %lu, due-in %lu, rank %d\n", (unsigned long)format, (unsigned long)format_due_in, format_rank);
+    if (ordering())
+        print_bytes(by_format() ? "sheet" : "order", order, order_length);
     printf("    %s: number %lu\n    %s: number %lu\n", sides[0].name, (unsigned long)right->number, side->name, (unsigned long)its->number);
     print_bytes("reply before", reply, reply_length);
     print_bytes(sides[0].name, right->reply, reply_length);
@@ -231,6 +259,8 @@ static void ask(const struct side *side, struct result *its)
     case ADVANCE: its->number = side->advance(i, image_length, r, reply_length); break;
     case OFFER: its->number = side->offer(i, image_length, o, order_length, r, reply_length); break;
     case QUOTE: its->number = side->quote(i, image_length, o, order_length, r, reply_length); break;
+    case OFFER_FORMAT: its->number = side->offer_format(i, image_length, format, format_due_in, format_rank, o, order_length, r, reply_length); break;
+    case QUOTE_FORMAT: its->number = side->quote_format(i, image_length, format, format_due_in, format_rank, o, order_length, r, reply_length); break;
     default: its->number = side->open(i, image_length, stations, r, reply_length); break;
     }
     memcpy(its->image, image_lent.lent, image_length);
@@ -260,14 +290,14 @@ static uint32_t one_call(void)
     static struct result right, its;
     made++;
     ask(&sides[0], &right);
-    if (right.number > 14 || (numbers_of[which] >> right.number & 1) == 0)
+    if (right.number >= NUMBERS || (numbers_of[which] >> right.number & 1) == 0)
         differ("a number that the call does not have", &sides[0], &right, &right);
     for (size_t s = 1; s < SIDES; s++) {
         ask(&sides[s], &its);
         if (!guards_stand(&image_lent) || !guards_stand(&order_lent) || !guards_stand(&reply_lent))
             differ("a byte was written outside of the buffers", &sides[s], &its, &right);
         if (memcmp(order_lent.lent, order, order_length) != 0)
-            differ("the order block was written", &sides[s], &its, &right);
+            differ(by_format() ? "the sheet was written" : "the order block was written", &sides[s], &its, &right);
         if (its.number != right.number)
             differ("the number", &sides[s], &its, &right);
         if (memcmp(its.reply, right.reply, reply_length) != 0)
@@ -276,17 +306,21 @@ static uint32_t one_call(void)
             differ("the image", &sides[s], &its, &right);
     }
     /* "Every decline leaves the image alone"; "After 1 the reply is untouched." */
-    if ((which == QUOTE || right.number != 0) && memcmp(right.image, image, image_length) != 0)
+    if ((which == QUOTE || which == QUOTE_FORMAT || right.number != 0) && memcmp(right.image, image, image_length) != 0)
         differ("the image was written", &sides[0], &right, &right);
     if (right.number == 1 && memcmp(right.reply, reply, reply_length) != 0)
         differ("the reply was written", &sides[0], &right, &right);
 
     seen[which][right.number]++;
     uint32_t stations_there = smaller(image[STATION_COUNT_AT], MAX_STATIONS + 1);
-    mark(((size_t)which * 15 + right.number) * (MAX_STATIONS + 2) + stations_there);
-    if (which == OFFER && right.number == 0) {
+    mark(((size_t)which * NUMBERS + right.number) * (MAX_STATIONS + 2) + stations_there);
+    if ((which == OFFER || which == OFFER_FORMAT) && right.number == 0) {
         offers_at[image[LIVE_COUNT_AT]]++;
         mark(PAIRS + image[LIVE_COUNT_AT]);
+    }
+    if (which == OFFER_FORMAT && right.number == 0) {
+        formats_done[format]++;
+        mark(FORMATS + format);
     }
     if (which == ADVANCE && right.number == 0) {
         count_tick(image, right.image);
@@ -447,13 +481,32 @@ static size_t take_length(const size_t *lengths)
     return code < 7 ? lengths[code] : take(2) % (LONGEST + 1);
 }
 
-/* The smallest due-in with which an order of this block is on time, as the simulator quotes it; or up to which it is due by the last tick. */
+/* The smallest due-in with which the order is on time, as the simulator quotes it; or up to which it is due by the last tick. */
 static uint32_t near(void)
 {
     uint8_t given[REPLY_SIZE];
-    put4(order + BLOCK_DUE_IN_AT, MAX_DUE_IN);
-    uint32_t number = simulator_quote(image, IMAGE_SIZE, order, BLOCK_SIZE, given, sizeof given), clock = get4(image + CLOCK_AT);
+    uint32_t number, clock = get4(image + CLOCK_AT);
+    if (by_format()) {
+        number = simulator_quote_format(image, IMAGE_SIZE, format, MAX_DUE_IN, format_rank, order, SHEET_SIZE, given, sizeof given);
+    } else {
+        put4(order + BLOCK_DUE_IN_AT, MAX_DUE_IN);
+        number = simulator_quote(image, IMAGE_SIZE, order, BLOCK_SIZE, given, sizeof given);
+    }
     return number == 0 ? get4(given + REPLY_TICK_AT) - clock : number == 8 ? LAST_TICK - clock : MAX_DUE_IN;
+}
+
+/* The due-in, in the way that two bits of `kind` tell. */
+static uint32_t take_due_in(uint32_t kind)
+{
+    switch (kind >> 2 & 3) {
+    case 0: return take(2);
+    case 1: return take(4);
+    case 2: return MAX_DUE_IN;
+    default: {
+        uint32_t smallest = near();
+        return smallest + (uint32_t)(int8_t)take(1);
+    }
+    }
 }
 
 static void take_order(int by_bytes)
@@ -463,35 +516,56 @@ static void take_order(int by_bytes)
         take_bytes(order, order_length);
         return;
     }
-    uint32_t kind = take(1), row = (kind & 3) % rows, due_in;
+    uint32_t kind = take(1), row = (kind & 3) % rows;
     memcpy(order + BLOCK_RANKS_AT, ranks[row], MAX_STATIONS);
     put_row(order + BLOCK_COSTS_AT, costs[row]);
-    switch (kind >> 2 & 3) {
-    case 0: due_in = take(2); break;
-    case 1: due_in = take(4); break;
-    case 2: due_in = MAX_DUE_IN; break;
-    default: due_in = near() + (uint32_t)(int8_t)take(1); break;
+    put4(order + BLOCK_DUE_IN_AT, take_due_in(kind));
+}
+
+static void take_format_order(void)
+{
+    memset(order, 0, sizeof order);
+    format = take(1);
+    if (format == 255)
+        format = take(4);
+    format_rank = (uint8_t)take(1);
+    uint32_t kind = take(1), row = (kind & 3) % rows;
+    if (kind & 16) {
+        take_bytes(order, order_length);
+    } else {
+        uint32_t speed = take(2);
+        for (uint32_t j = 0; j < n; j++) {
+            put2(order + SHEET_FIXED_AT + 2 * j, costs[row][j] - 1u);
+            put2(order + SHEET_SPEEDS_AT + 2 * j, speed);
+        }
     }
-    put4(order + BLOCK_DUE_IN_AT, due_in);
+    format_due_in = take_due_in(kind);
 }
 
 static void take_call(void)
 {
     static const size_t image_lengths[] = {IMAGE_SIZE, 0, IMAGE_SIZE - 1, IMAGE_SIZE + 1, 1, SERVICES_AT, RECORDS_AT};
     static const size_t order_lengths[] = {BLOCK_SIZE, 0, BLOCK_SIZE - 1, BLOCK_SIZE + 1, 1, BLOCK_COSTS_AT, 2 * BLOCK_SIZE};
+    static const size_t sheet_lengths[] = {SHEET_SIZE, 0, SHEET_SIZE - 1, SHEET_SIZE + 1, 1, SHEET_SPEEDS_AT, BLOCK_SIZE};
     static const size_t reply_lengths[] = {REPLY_SIZE, 0, REPLY_SIZE - 1, REPLY_SIZE + 1, 1, 4, 2 * REPLY_SIZE};
     uint32_t kind = take(1), times = kind & 4 ? take(1) + 1 : 1;
     which = (int)(kind & 3);
+    if (kind & 16 && which == ADVANCE)
+        which = OFFER_FORMAT;
+    if (kind & 16 && which == OPEN)
+        which = QUOTE_FORMAT;
     at_start = (kind & 64) != 0;
     image_length = IMAGE_SIZE;
-    order_length = BLOCK_SIZE;
+    order_length = by_format() ? SHEET_SIZE : BLOCK_SIZE;
     reply_length = REPLY_SIZE;
     if (kind & 8) {
         image_length = take_length(image_lengths);
-        order_length = take_length(order_lengths);
+        order_length = take_length(by_format() ? sheet_lengths : order_lengths);
         reply_length = take_length(reply_lengths);
     }
-    if (which == OFFER || which == QUOTE)
+    if (by_format())
+        take_format_order();
+    else if (ordering())
         take_order((kind & 16) != 0);
     if (which == OPEN)
         stations = take(1);
@@ -583,12 +657,14 @@ static int complete(void)
 {
     int lacks = 0;
     for (int c = 0; c < CALLS; c++)
-        for (unsigned long k = 0; k < 15; k++)
+        for (unsigned long k = 0; k < NUMBERS; k++)
             lacks |= missing((numbers_of[c] >> k & 1) != 0 && seen[c][k] == 0, names[c], k);
     for (unsigned long k = 0; k < MAX_LIVE; k++)
         lacks |= missing(offers_at[k] == 0, "done offer with live orders", k);
     for (unsigned long k = 0; k <= MAX_LIVE; k++)
         lacks |= missing(advances_at[k] == 0, "done advance with live orders", k);
+    for (unsigned long k = 1; k <= MAX_FORMAT; k++)
+        lacks |= missing(formats_done[k] == 0, "done offer of format", k);
     lacks |= missing(starts < 100, "100 starts but", starts);
     lacks |= missing(moves < 100, "100 orders that go on but", moves);
     lacks |= missing(outs < 100, "100 orders out but", outs);
@@ -622,7 +698,7 @@ int main(int argc, char **argv)
     printf("%lu inputs, %lu calls: number, every byte of image and reply as the second simulator has them\n", inputs, made);
     for (int c = 0; c < CALLS; c++) {
         printf("%s:", names[c]);
-        for (int k = 0; k < 15; k++)
+        for (int k = 0; k < NUMBERS; k++)
             if (numbers_of[c] >> k & 1)
                 printf(" %d %lux", k, seen[c][k]);
         printf("\n");

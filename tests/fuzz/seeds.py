@@ -3,8 +3,8 @@
 to put into inputs.
 
 Most are made by hand here: each number of each call, cabinets that are fresh, full, at the last tick and at the last ticket, each clause of soundness broken,
-and wrong lengths. The rest are images and lists of calls that the second simulator's generators make with a fixed seed. Every run writes the same files;
-tests/stored has it write tests/fuzz/seeds and tests/fuzz/words.
+each paper format, and wrong lengths. The rest are images and lists of calls that the second simulator's generators make with a fixed seed. Every run writes the
+same files; tests/stored has it write tests/fuzz/seeds and tests/fuzz/words.
 """
 import os
 import subprocess
@@ -14,14 +14,18 @@ from pathlib import Path
 
 sys.path.insert(0, str(Path(__file__).resolve().parent.parent))
 import layout
-from layout import BLOCK_SIZE, IMAGE_SIZE, LAST_TICK, MAX_COST, MAX_DUE_IN, MAX_LIVE, MAX_STATIONS, REPLY_SIZE, block, record, service
+from layout import (BLOCK_SIZE, IMAGE_SIZE, LAST_TICK, MAX_COST, MAX_DUE_IN, MAX_FORMAT, MAX_LIVE, MAX_STATIONS, REPLY_SIZE, SHEET_SIZE, block, record,
+                    service)
 from level import at_level
 
 SEED = 70000
 ADVANCE, OFFER, QUOTE, OPEN = range(4)
 FRESH, DESCRIBED, BYTES = range(3)
 MANY, ODD, BLOCK, REPLY, AT_START, PATCHED = 4, 8, 16, 32, 64, 128
+OFFER_FORMAT, QUOTE_FORMAT, SHEET = ADVANCE | BLOCK, OPEN | BLOCK, 16
 PATCHES = 4
+A1, A2, A3, A4, A5, B1, B2, B3, B4, B5 = range(1, MAX_FORMAT + 1)
+FASTEST = 65535  # at this speed paper of every format takes one tick
 LONGEST = IMAGE_SIZE + 172  # bytes of a lent buffer, as fuzz.c has it
 
 
@@ -72,18 +76,49 @@ def advance(times=1, flags=0):
     return bytes([ADVANCE | flags]) if times == 1 else bytes([ADVANCE | MANY | flags, times - 1])
 
 
+def due_in_of(due_in, room):
+    """The bits that tell how the due-in is given, and its bytes: this one, the smallest on time and this much more, or the largest."""
+    if room is not None:
+        return 3 << 2, little(room, 1)
+    if due_in is None:
+        return 2 << 2, b''
+    return (0, little(due_in, 2)) if due_in < 65536 else (1 << 2, little(due_in, 4))
+
+
 def by_row(which, row=0, due_in=None, room=None, times=1, flags=0):
     """An offer or a quote of a row: with this due-in, with the smallest due-in on time and this much more, or with the largest."""
     text = bytes([which | flags]) if times == 1 else bytes([which | MANY | flags, times - 1])
-    if room is not None:
-        return text + bytes([row | 3 << 2]) + little(room, 1)
-    if due_in is None:
-        return text + bytes([row | 2 << 2])
-    return text + (bytes([row]) + little(due_in, 2) if due_in < 65536 else bytes([row | 1 << 2]) + little(due_in, 4))
+    bits, given = due_in_of(due_in, room)
+    return text + bytes([row | bits]) + given
 
 
 def by_bytes(which, order, flags=0):
     return bytes([which | BLOCK | flags]) + order
+
+
+def format_head(which, number, rank, kind, times=1, flags=0):
+    text = bytes([which | flags]) if times == 1 else bytes([which | MANY | flags, times - 1])
+    return text + (bytes([number]) if number < 255 else b'\xff' + little(number, 4)) + bytes([rank, kind])
+
+
+def by_format(which, number, row=0, speed=FASTEST, due_in=None, room=None, rank=0, times=1, flags=0):
+    """A format order whose fixed ticks are the row's costs less 1, at one speed."""
+    bits, given = due_in_of(due_in, room)
+    return format_head(which, number, rank, row | bits, times, flags) + little(speed, 2) + given
+
+
+def by_sheet(which, number, figures, due_in=None, room=None, rank=0, flags=0):
+    """A format order by the bytes of its sheet."""
+    bits, given = due_in_of(due_in, room)
+    return format_head(which, number, rank, SHEET | bits, flags=flags) + figures + given
+
+
+def sheet(fixed, speeds):
+    """A sheet. What is not told of a station is 0."""
+    text = bytearray(SHEET_SIZE)
+    layout.put_row(text, layout.SHEET_FIXED_AT, fixed, 2)
+    layout.put_row(text, layout.SHEET_SPEEDS_AT, speeds, 2)
+    return bytes(text)
 
 
 def opened(stations, flags=0):
@@ -154,7 +189,7 @@ def damaged():
     accepted, due, total, station = (at + place for place in (layout.ACCEPTED_AT, layout.DUE_AT, layout.SUM_AT, layout.STATION_AT))
     ranks, costs, maxima = at + layout.RANKS_AT, at + layout.COSTS_AT, at + layout.MAXIMA_AT
     n, live, clock = layout.STATION_COUNT_AT, layout.LIVE_COUNT_AT, layout.CLOCK_AT
-    calls = by_row(QUOTE) + advance() + by_row(OFFER) + opened(9)
+    calls = by_row(QUOTE) + advance() + by_row(OFFER) + by_format(QUOTE_FORMAT, A4) + by_format(OFFER_FORMAT, B2, speed=0) + opened(9)
     breaks = {
         'mark': (0, 1, 0x56), 'version': (layout.VERSION_AT, 2, layout.VERSION + 1),
         'stations-0': (n, 1, 0), 'stations-9': (n, 1, MAX_STATIONS + 1), 'stations-1': (n, 1, 1), 'stations-3': (n, 1, 3),
@@ -203,6 +238,66 @@ def forms():
     yield 'no-image', head(BYTES, 1, ([0], [1])) + none + by_row(QUOTE) + advance() + by_row(OFFER) + opened(1) + by_row(OFFER)
 
 
+def formats():
+    """Orders by paper format: every format, every number, sheets at the ends of their ranges and of wrong lengths."""
+    each = range(1, MAX_FORMAT + 1)
+    both = (QUOTE_FORMAT, OFFER_FORMAT)
+    two = head(FRESH, 2, ([0, 0], [1, 11]))
+
+    def sheets(numbers, all_of_them, **rest):
+        return b''.join(by_sheet(which, k, s, **rest) for s in all_of_them for k in numbers for which in both)
+
+    yield 'formats', two + b''.join(by_format(QUOTE_FORMAT, k, speed=297, room=-1) + by_format(OFFER_FORMAT, k, speed=70, rank=k) for k in each) + advance(90)
+    wide = head(FRESH, 8, ([0] * 8, [3 + j for j in range(8)]))
+    yield 'formats-8', (wide + b''.join(by_format(QUOTE_FORMAT, k, speed=99, room=0) + by_format(OFFER_FORMAT, k, speed=200, rank=10 - k) for k in each) +
+                        sheets((A4,), [sheet([1] * 8, [9] * 7 + [0])]) + advance(60))
+    yield 'formats-and-blocks', (head(FRESH, 1, ([3], [7])) + by_row(OFFER, room=40) + by_format(OFFER_FORMAT, A3, speed=60, rank=3, room=9) +
+                                 by_row(QUOTE, room=-1) + by_format(QUOTE_FORMAT, A3, speed=420, rank=3, room=-1) + advance(25))
+    yield 'formats-slow', two + by_sheet(OFFER_FORMAT, A1, sheet([], [1, 841])) + by_sheet(OFFER_FORMAT, B1, sheet([9], [1000, 1])) + advance(150)
+    edges = [(number, speed) for number, side in ((A5, 210), (B4, 353)) for speed in (side - 1, side, side + 1, side // 2, side // 2 + 1)]
+    yield 'formats-rounded', two + b''.join(by_format(OFFER_FORMAT, number, speed=speed) + advance(2) for number, speed in edges) + advance(60)
+    # 19 and 20, and which of two numbers comes first.
+    others = (0, MAX_FORMAT + 1, 254, 255, 256, 257, 256 + MAX_FORMAT, 65537, 2**31 + 1, 2**32 - 1)
+    yield 'formats-other', two + b''.join(by_format(which, k) for k in others for which in both)
+    stopped = [sheet([1, 1], speeds) for speeds in ([0, 5], [5, 0], [256, 0])] + [sheet([MAX_COST, 1], [5, 0]), sheet([], [])]
+    yield 'formats-stopped', two + sheets((A4, 0), stopped) + sheets((A4,), stopped, due_in=2**32 - 1)
+    # Costs of 6,000, 6,001, 65,535 and 65,536 ticks, and above; what stands beyond N.
+    at_a_limit = ((MAX_COST - 1, FASTEST), (MAX_COST, FASTEST), (MAX_COST - 297, 1), (MAX_COST - 296, 1), (65534, 297), (65535, 297), (65535, 1), (65239, 1))
+    yield 'formats-costs', two + sheets((A4,), [sheet([fixed, 1], [speed, 9]) for fixed, speed in at_a_limit]) + advance()
+    beyond = [sheet([1, 2, 65535, 0, 7], [9, 9, 0, 1, 65535]), sheet([1, 2] + [65535] * 6, [9, 9] + [1] * 6), sheet([], [300] * 2)]
+    yield 'formats-beyond', two + sheets((B3,), beyond, rank=255) + advance(40)
+    due_ins = (0, 1, MAX_DUE_IN, MAX_DUE_IN + 1, 65536 + 900, 2**31, 2**32 - 1)
+    yield 'formats-due', two + b''.join(by_format(which, A2, speed=99, due_in=d) for d in due_ins for which in both) + advance(3)
+    text = two
+    rest = by_format(0, A4, speed=50)[1:]
+    for code in range(1, 7):
+        for which in both:
+            text += lengths(which, code, 0, 0, rest) + lengths(which, 0, code, 0, rest) + lengths(which, 0, 0, code, rest)
+    yield 'formats-lengths', text
+    text = two
+    for length in (BLOCK_SIZE, SHEET_SIZE - 1, SHEET_SIZE, SHEET_SIZE + 1, 2 * SHEET_SIZE):
+        given = by_sheet(0, A4, sheet([1, 2], [3, 4]).ljust(length, b'\7')[:length])
+        text += b''.join(said(which, IMAGE_SIZE, length, REPLY_SIZE) + given[1:] for which in both)
+    yield 'formats-lengths-said', text
+    yield 'formats-places', (two + by_format(OFFER_FORMAT, A4, flags=AT_START) + by_format(QUOTE_FORMAT, A4, flags=AT_START | REPLY) + b'\xff' * REPLY_SIZE +
+                             lengths(OFFER_FORMAT | AT_START, 0, 1, 0, rest) +
+                             by_format(OFFER_FORMAT, A4, flags=PATCHED) + bytes([layout.SHEET_SPEEDS_AT, 255]) +
+                             by_format(QUOTE_FORMAT, A4, flags=PATCHED) + bytes([layout.SHEET_FIXED_AT + 1, 255]))
+    # 8 to 12: the last ticks, the last ticket, 32 live, and late.
+    few = [(0, 0, 1, 2, 9, 5, 40), (1, 0, 2, 0, 7, 9, 0)]
+    roomy = [(0, 0, 1, 2, 9, 5, 2000), (1, 0, 2, 0, 7, 9, 9000)]
+    drawn = head(DESCRIBED, 2, ([1, 4], [20, 30]))
+    end = b''.join(by_format(which, k, speed=150, room=room) for which, k, room in (
+        (QUOTE_FORMAT, B1, 0), (QUOTE_FORMAT, B1, -1), (OFFER_FORMAT, B1, -1), (OFFER_FORMAT, B1, 0), (OFFER_FORMAT, A5, 1))) + by_format(QUOTE_FORMAT, A1)
+    for name, clock in (('last-tick', (0, 1)), ('near-last-tick', (60, 2)), ('due-at-last-tick', (30000, 2))):
+        yield 'formats-' + name, drawn + described(clock, (3, 1), roomy, [(1, 0), (1, 130)]) + end + by_format(OFFER_FORMAT, A1)
+    yield 'formats-late', drawn + described((500, 3), (3, 1), few, [(1, 0), (1, 130)]) + end + by_format(OFFER_FORMAT, A1) + advance(9)
+    for name, tickets in (('last-ticket', (0, 3)), ('no-ticket', (1, 2))):
+        yield 'formats-' + name, drawn + described((500, 3), tickets, roomy, [(0, 0), (1, 0)]) + end + by_format(OFFER_FORMAT, B2, times=3) + advance(5)
+    yield 'formats-full', (head(FRESH, 1, ([0], [1])) + by_format(OFFER_FORMAT, A5, times=MAX_LIVE + 1) + by_format(QUOTE_FORMAT, A5) + advance() +
+                           by_format(OFFER_FORMAT, B5) + advance(40))
+
+
 def of_the_simulator(simulator):
     """Lists of calls and images that the second simulator makes."""
     with tempfile.TemporaryDirectory() as folder:
@@ -227,17 +322,26 @@ def of_the_simulator(simulator):
 
 def of_a_line(words):
     """A call of a list: CALL ARGUMENTS REPLY-BEFORE -> and what it gave."""
-    calls = ['advance', 'offer', 'quote', 'open']
+    calls = {'advance': ADVANCE, 'offer': OFFER | BLOCK, 'quote': QUOTE | BLOCK, 'open': OPEN, 'offer_format': OFFER_FORMAT, 'quote_format': QUOTE_FORMAT}
     if words[0] not in calls:
         sys.exit(f"seeds.py: the second simulator's lists have the call '{words[0]}', for which fuzz.c has no form")
-    which = calls.index(words[0])
-    before = words[:words.index('->')]
-    reply = b'' if before[-1] == '-' else bytes.fromhex(before[-1])
-    order = b'' if which in (ADVANCE, OPEN) or before[1] == '-' else bytes.fromhex(before[1])
-    text = said(which | BLOCK | REPLY, IMAGE_SIZE, len(order), len(reply)) + order
+    which = calls[words[0]]
+    *arguments, reply = words[1:words.index('->')]
+    reply = unhex(reply)
+    order = b'' if which in (ADVANCE, OPEN) else unhex(arguments[-1])
+    text = said(which | REPLY, IMAGE_SIZE, len(order), len(reply))
     if which == OPEN:
-        text += b'\xff' + little(int(before[1], 16), 4)
+        text += b'\xff' + little(int(arguments[0], 16), 4)
+    elif which in (OFFER_FORMAT, QUOTE_FORMAT):
+        number, due_in, rank = (int(word, 16) for word in arguments[:3])
+        text += b'\xff' + little(number, 4) + bytes([rank, SHEET | 1 << 2]) + order + little(due_in, 4)
+    else:
+        text += order
     return text + reply
+
+
+def unhex(word):
+    return b'' if word == '-' else bytes.fromhex(word)
 
 
 def quoted(text):
@@ -246,11 +350,12 @@ def quoted(text):
 
 def words():
     """A line for each."""
-    yield "# Words for AFL++ to put into inputs: the mark and version, and the ends of the ranges of document 01, low byte first."
+    yield "# Words for AFL++ to put into inputs: the mark and version, and the ends of the ranges of documents 01 and 02, low byte first."
     yield 'mark="' + layout.MARK.decode() + quoted(layout.HEAD[len(layout.MARK):]) + '"'
     for name, value, width in (('cost_most', MAX_COST, 2), ('cost_above', MAX_COST + 1, 2), ('due_in_most', MAX_DUE_IN, 4), ('due_in_above', MAX_DUE_IN + 1, 4),
                                ('due_in_default', layout.DEFAULT_DUE_IN, 4), ('last_tick', LAST_TICK, 4), ('after_last_tick', LAST_TICK + 1, 4),
-                               ('last_ticket', layout.LAST_TICKET, 4)):
+                               ('last_ticket', layout.LAST_TICKET, 4), ('speed_least', 1, 2), ('speed_most', FASTEST, 2), ('format_most', MAX_FORMAT, 4),
+                               ('format_above', MAX_FORMAT + 1, 4), ('format_257', 257, 4)):
         yield f'{name}="{quoted(little(value, width))}"'
 
 
@@ -258,7 +363,7 @@ def main():
     simulator, folder, word_file = sys.argv[1:]
     os.makedirs(folder, exist_ok=True)
     names = set()
-    for made in (counter(), long_runs(), deep(), damaged(), forms(), of_the_simulator(simulator)):
+    for made in (counter(), long_runs(), deep(), damaged(), forms(), formats(), of_the_simulator(simulator)):
         for name, text in made:
             assert name not in names and len(text) < 4096
             names.add(name)
