@@ -259,7 +259,7 @@ def formats():
     # 19 and 20, and which of two numbers comes first.
     others = (0, MAX_FORMAT + 1, 254, 255, 256, 257, 256 + MAX_FORMAT, 65537, 2**31 + 1, 2**32 - 1)
     yield 'formats-other', two + b''.join(by_format(which, k) for k in others for which in both)
-    stopped = [sheet([1, 1], speeds) for speeds in ([0, 5], [5, 0], [256, 0])] + [sheet([MAX_COST, 1], [5, 0]), sheet([], [])]
+    stopped = [sheet([1, 1], speeds) for speeds in ([0, 5], [5, 0], [256, 0])] + [sheet([MAX_COST + 1, 1], [5, 0]), sheet([], [])]
     yield 'formats-stopped', two + sheets((A4, 0), stopped) + sheets((A4,), stopped, due_in=2**32 - 1)
     # Costs of 6,000, 6,001, 65,535 and 65,536 ticks, and above; what stands beyond N.
     at_a_limit = ((MAX_COST - 1, FASTEST), (MAX_COST, FASTEST), (MAX_COST - 297, 1), (MAX_COST - 296, 1), (65534, 297), (65535, 297), (65535, 1), (65239, 1))
@@ -269,10 +269,10 @@ def formats():
     due_ins = (0, 1, MAX_DUE_IN, MAX_DUE_IN + 1, 65536 + 900, 2**31, 2**32 - 1)
     yield 'formats-due', two + b''.join(by_format(which, A2, speed=99, due_in=d) for d in due_ins for which in both) + advance(3)
     text = two
-    rest = by_format(0, A4, speed=50)[1:]
+    rest, other = (by_format(0, k, speed=50)[1:] for k in (A4, 0))
     for code in range(1, 7):
-        for which in both:
-            text += lengths(which, code, 0, 0, rest) + lengths(which, 0, code, 0, rest) + lengths(which, 0, 0, code, rest)
+        for which, given in zip(both, (other, rest)):
+            text += lengths(which, code, 0, 0, given) + lengths(which, 0, code, 0, given) + lengths(which, 0, 0, code, given)
     yield 'formats-lengths', text
     text = two
     for length in (BLOCK_SIZE, SHEET_SIZE - 1, SHEET_SIZE, SHEET_SIZE + 1, 2 * SHEET_SIZE):
@@ -291,6 +291,8 @@ def formats():
         (QUOTE_FORMAT, B1, 0), (QUOTE_FORMAT, B1, -1), (OFFER_FORMAT, B1, -1), (OFFER_FORMAT, B1, 0), (OFFER_FORMAT, A5, 1))) + by_format(QUOTE_FORMAT, A1)
     for name, clock in (('last-tick', (0, 1)), ('near-last-tick', (60, 2)), ('due-at-last-tick', (30000, 2))):
         yield 'formats-' + name, drawn + described(clock, (3, 1), roomy, [(1, 0), (1, 130)]) + end + by_format(OFFER_FORMAT, A1)
+    broken = head(DESCRIBED | PATCHES, 2, ([1, 4], [20, 30])) + described((500, 3), (3, 1), few, [(0, 0)] * 2) + b'\0' + patch(2, layout.HEADER_ZERO_AT, 1, 1)
+    yield 'formats-broken', broken + b''.join(lengths(which, 0, code, 0, given) for which in both for code in range(4) for given in (rest, other))
     yield 'formats-late', drawn + described((500, 3), (3, 1), few, [(1, 0), (1, 130)]) + end + by_format(OFFER_FORMAT, A1) + advance(9)
     for name, tickets in (('last-ticket', (0, 3)), ('no-ticket', (1, 2))):
         yield 'formats-' + name, drawn + described((500, 3), tickets, roomy, [(0, 0), (1, 0)]) + end + by_format(OFFER_FORMAT, B2, times=3) + advance(5)
