@@ -177,10 +177,16 @@ static void misread(uint8_t *order, unsigned n, uint32_t clock)
     }
 }
 
+/* One call in so many. */
+static int seldom(void)
+{
+    static unsigned long calls;
+    return ++calls % 200000 == 0;
+}
+
 /* Quote and offer. */
 static uint32_t ordered(int offer, uint8_t *image, size_t image_len, const uint8_t *order, size_t order_len, uint8_t *reply, size_t reply_len)
 {
-    static unsigned long calls;
     uint8_t before[IMAGE_SIZE], read[BLOCK_SIZE], trial[IMAGE_SIZE];
     if (fault() == 17 && order_len > 0) { /* a byte behind the order block is read */
         volatile uint8_t behind = order[order_len];
@@ -287,7 +293,7 @@ static uint32_t ordered(int offer, uint8_t *image, size_t image_len, const uint8
             reply[REPLY_SIZE] = 0;
         break;
     case 36: /* one call in 200,000 gives another margin */
-        if (++calls % 200000 == 0)
+        if (seldom())
             reply[REPLY_MARGIN_AT] ^= 1;
         break;
     case 62: /* the byte before the order block is written */
@@ -479,13 +485,20 @@ static uint32_t ordered_by_format(int offer, uint8_t *image, size_t image_len, u
         if (n >= 1 && n <= MAX_STATIONS)
             misread_format(&read, n);
     }
-    uint32_t number = right_offer_format(trial, IMAGE_SIZE, read.format, read.due_in, read.rank, whole ? read.sheet : sheet, sheet_len, reply, REPLY_SIZE);
+    const uint8_t *figures = whole ? read.sheet : sheet;
+    uint32_t number = right_offer_format(trial, IMAGE_SIZE, read.format, read.due_in, read.rank, figures, sheet_len, reply, REPLY_SIZE);
+    if ((number == 3 || number == 4) && overlooked(trial))
+        number = right_offer_format(trial, IMAGE_SIZE, read.format, read.due_in, read.rank, figures, sheet_len, reply, REPLY_SIZE);
     uint32_t ticket = get4(reply + REPLY_TICKET_AT);
     if (number == 0 && !offer)
         put4(reply + REPLY_TICKET_AT, 0);
     /* Every question about the image, the sheet's length, the format and the speeds is answered by yes. */
     int good = number == 0 || (number >= 6 && number <= 12), accepted = number == 0 && offer;
     switch (fault()) {
+    case 36:
+        if (seldom())
+            reply[REPLY_MARGIN_AT] ^= 1;
+        break;
     case 98: /* 19 and 20 are exchanged */
         if (number == 19 || number == 20)
             number = declined(39 - number, reply);

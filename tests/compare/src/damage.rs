@@ -104,7 +104,10 @@ fn probe(desk: &mut Desk, name: &str, image: Vec<u8>, rng: &mut Rng) {
     let (quote, offer) = if rng.one_in(3) {
         let mut order = FormatOrder::of_costs(rng, &vec![1; n], 1, MAX_DUE_IN);
         match rng.below(12) {
-            0 => order.resize(rng.pick(&[0, SHEET_SIZE - 1, SHEET_SIZE + 1, BLOCK_SIZE])),
+            0 => {
+                if rng.one_in(2) { order.push(rng, n); }
+                order.resize(rng.pick(&[0, SHEET_SIZE - 1, SHEET_SIZE + 1, BLOCK_SIZE]));
+            }
             1 | 2 => order.push(rng, n),
             _ => {}
         }

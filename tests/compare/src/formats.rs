@@ -60,20 +60,20 @@ impl FormatOrder {
         let j = match rng.below(3) { 0 => 0, 1 => n - 1, _ => rng.below(n as u64) as usize };
         // What the paper takes at the station, if it can be told.
         let paper = cost(self.format, &self.sheet, j).map_or(1, |cost| (cost - u32::from(get16(&self.sheet, fixed_at(j)))) as u16);
-        match rng.below(10) {
+        match rng.below(11) {
             0 | 1 => self.format = rng.pick(&[0, MAX_FORMAT + 1, MAX_FORMAT + 2, 255, 256, 257, 256 + MAX_FORMAT, 65_537, 0x8000_0001, u32::MAX]),
-            2 => put16(&mut self.sheet, speed_at(j), 0),
+            2 | 3 => put16(&mut self.sheet, speed_at(j), 0),
             // costs of 6,000 and 6,001 exactly
-            3 => put16(&mut self.sheet, fixed_at(j), MAX_COST - paper),
-            4 => put16(&mut self.sheet, fixed_at(j), MAX_COST - paper + 1),
+            4 => put16(&mut self.sheet, fixed_at(j), MAX_COST - paper),
+            5 => put16(&mut self.sheet, fixed_at(j), MAX_COST - paper + 1),
             // costs of 65,535 and 65,536 exactly, and larger ones that two bytes would make small ones of
-            5 => put16(&mut self.sheet, fixed_at(j), rng.pick(&[u16::MAX - paper, u16::MAX - paper + 1, u16::MAX, 0x8000])),
-            6 => {
+            6 => put16(&mut self.sheet, fixed_at(j), rng.pick(&[u16::MAX - paper, u16::MAX - paper + 1, u16::MAX, 0x8000])),
+            7 => {
                 put16(&mut self.sheet, speed_at(j), rng.pick(&[1, 2, 100, u16::MAX]));
                 put16(&mut self.sheet, fixed_at(j), rng.pick(&[0, u16::MAX, u16::MAX - 99]));
             }
-            7 => self.due_in = rng.pick(&[0, MAX_DUE_IN, MAX_DUE_IN + 1, 65_536, 0x8000_0000, u32::MAX]),
-            8 => self.rank = rng.pick(&[0, 1, 254, 255]),
+            8 => self.due_in = rng.pick(&[0, MAX_DUE_IN, MAX_DUE_IN + 1, 65_536, 0x8000_0000, u32::MAX]),
+            9 => self.rank = rng.pick(&[0, 1, 254, 255]),
             _ => self.sheet = rng.bytes(SHEET_SIZE),
         }
     }

@@ -218,7 +218,7 @@ impl Aim {
     /// The order by its format, with one or two things at a limit or beyond it.
     pub fn odd_format_order(&self, rng: &mut Rng) -> FormatOrder {
         let mut order = self.by_format(rng, MAX_DUE_IN.into());
-        for _ in 0..rng.pick(&[1, 1, 2]) { order.push(rng, self.state.n); }
+        for _ in 0..rng.range(1, 2) { order.push(rng, self.state.n); }
         order
     }
 

@@ -45,7 +45,7 @@ pub fn lengths(desk: &mut Desk, name: &str, seed: u64) {
         let mut series = Series::new(desk, Kind::Lengths, name, image);
         for _ in 0..5 {
             let mut order = aim.order(&mut rng);
-            let mut by_format = if rng.one_in(3) { aim.odd_format_order(&mut rng) } else { aim.format_order(&mut rng) };
+            let mut by_format = if rng.one_in(2) { aim.odd_format_order(&mut rng) } else { aim.format_order(&mut rng) };
             if rng.one_in(2) {
                 // Each also as long as the other should be.
                 order.resize(rng.pick(&[
