@@ -352,7 +352,7 @@ struct formatted {
 static const unsigned long_sides[MAX_FORMAT] = {841, 594, 420, 297, 210, 1000, 707, 500, 353, 250};
 static const unsigned short_sides[MAX_FORMAT] = {594, 420, 297, 210, 148, 707, 500, 353, 250, 176};
 
-/* Gives a station another cost: that of paper which takes one tick at this speed, and the rest fixed. What no two bytes hold, and 0, is 6,001: both get 6. */
+/* Gives a station another cost: one tick for the paper, at a speed above every side, and the rest fixed. Any that is out of range becomes 6,001. */
 static void put_cost(uint8_t *sheet, unsigned station, unsigned cost)
 {
     put2(sheet + FIXED_AT(station), (cost < 1 || cost > MAX_COST ? MAX_COST + 1 : cost) - 1);
@@ -434,7 +434,7 @@ static void misread_format(struct formatted *o, unsigned n)
             put_cost(o->sheet, j, costs[j - 1]);
 }
 
-/* A speed of 0 from one station up to another; fixed ticks there that no cost can have. */
+/* Whether one of these stations has a speed of 0; whether one has more fixed ticks than so many. */
 static int speed_0(const uint8_t *sheet, unsigned from, unsigned to)
 {
     for (unsigned j = from; j <= to; j++)
