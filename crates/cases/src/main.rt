@@ -1,16 +1,19 @@
-// Document 01's worked cases, made by the calls themselves, a line for each call. The stored output is written by hand from
-// document 01's figures, and no program made it. This one only makes the calls and writes: what it prints of a reply is
+// Document 01's worked cases, and one of document 02, (i), made by the calls themselves, a line for each call. The stored output
+// is written by hand from the papers' figures, and no program made it. This one only makes the calls and writes: what it prints of a reply is
 // `replyLine` of the crate `trials`, of an image `explained` of the crate `image_text`, and of a table `planOutput` of the
 // crate `plan_model`.
 ghost use Prim.Native.Nat.{_≤_};
 ghost use lib.ListN.{length};
 use dispatcher::advance::dispatcher_advance;
+use dispatcher::format::dispatcher_offer_format;
+use dispatcher::format::dispatcher_quote_format;
 use dispatcher::offer::dispatcher_offer;
 use dispatcher::offer::dispatcher_quote;
 use dispatcher::open::dispatcher_open;
 use image::layout::BLOCK_SIZE;
 use image::layout::IMAGE_SIZE;
 use image::layout::REPLY_SIZE;
+use image::layout::SHEET_SIZE;
 use image_text::explanation::explain;
 use plan_text::print::print_plan;
 use trials::block::order_block;
@@ -40,6 +43,30 @@ fn quote(image: &[u8; IMAGE_SIZE], order: [u8; BLOCK_SIZE]) {
 fn offer(image: &mut [u8; IMAGE_SIZE], order: [u8; BLOCK_SIZE]) {
     let mut reply = [0u8; REPLY_SIZE];
     dispatcher_offer(image, &order, &mut reply);
+    say(b"offer", &reply);
+}
+
+fn quote_format(
+    image: &[u8; IMAGE_SIZE],
+    format: u32,
+    due_in: u32,
+    rank: u8,
+    sheet: [u8; SHEET_SIZE],
+) {
+    let mut reply = [0u8; REPLY_SIZE];
+    dispatcher_quote_format(image, format, due_in, rank, &sheet, &mut reply);
+    say(b"quote", &reply);
+}
+
+fn offer_format(
+    image: &mut [u8; IMAGE_SIZE],
+    format: u32,
+    due_in: u32,
+    rank: u8,
+    sheet: [u8; SHEET_SIZE],
+) {
+    let mut reply = [0u8; REPLY_SIZE];
+    dispatcher_offer_format(image, format, due_in, rank, &sheet, &mut reply);
     say(b"offer", &reply);
 }
 
@@ -147,6 +174,24 @@ fn thirty_two() {
     offer(&mut image, order);
 }
 
+// Two stations with 0 and 1 fixed ticks, and 250 millimetres per tick. The long side of A3 is 420 mm, 2 times 250 rounded up, so
+// its costs are 0 + 2 and 1 + 2, those of X; that of A5 is 210 mm, and its costs are 0 + 1 and 1 + 1, those of Y. There is no
+// format 11.
+fn by_format() {
+    let mut image = [0u8; IMAGE_SIZE];
+    let mut sheet = [0u8; SHEET_SIZE];
+    sheet[2] = 1;
+    sheet[16] = 250;
+    sheet[18] = 250;
+    open(&mut image, 2);
+    quote_format(&image, 3, 20, 0, sheet);
+    offer_format(&mut image, 3, 20, 0, sheet);
+    offer_format(&mut image, 5, 7, 5, sheet);
+    offer_format(&mut image, 11, 7, 5, sheet);
+    show(&image);
+    advance(&mut image, 7);
+}
+
 fn table(input: &[u8]) {
     let mut out = [0u8; 1024];
     let end = print_plan(input, &mut out);
@@ -179,6 +224,8 @@ fn other_cases() {
         b"one station, 33 orders of cost 1 due in 60000, an advance, one more\n",
     );
     thirty_two();
+    io::write_all(1, b"A3 due in 20, then A5 due in 7, by format\n");
+    by_format();
 }
 
 fn main() {
