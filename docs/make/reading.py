@@ -56,6 +56,7 @@ FILES = [
         ("Costs", ["C: An order has, for each station"], ["maxCost"]),
         ("Due-in", ["C: Its due-in is"], ["maxDueIn", "defaultDueIn"]),
         ("Live orders", ["C: At most 32 orders"], ["maxLive"]),
+        ("Formats", ["i: Formats are numbered"], ["maxFormat"]),
         ("The last tick", ["I~ clock at most 4,000,000,000", "Q: Due tick at most", "Q: Clock below"], ["lastTick"]),
         ("The last ticket", ["I~ next ticket (4), 0 when none is left"], ["lastTicket"]),
     ]),
@@ -73,6 +74,7 @@ FILES = [
     ("model/specs/Lists.antt", "Words about lists and tests", [
         ("Ranges and zero", ["C~ N stations, 1 to 8", "I~ zero bytes and unused records zero"], ["within", "isZero"]),
         ("The entry of a station, and a part of a list", ["C~ for each station, a cost in ticks (1 to 6,000) and a rank", "I~ Bytes 0 to 2"], ["at", "part"]),
+        ("A quotient rounded up", ["i~ long side divided by speed, rounded up", "S~ (R / period of i, rounded up)"], ["roundedUp"]),
         ("Added up, the largest, the larger of two", ["D~ the largest station cost of each member, added up", "D~ the largest cost any member has there"],
          ["total", "largest", "larger"]),
         ("Lists one after the other", OWN, ["concat"]),
@@ -117,6 +119,8 @@ FILES = [
         ("The bytes of one entry, of one record", ["I~ Then eight station entries of 8 bytes", "I~ Then 32 records of 64 bytes"],
          ["servicePart", "recordPart"]),
         ("An order block", ["I: An order block is"], ["blockSize", "blockDueInAt", "blockRanksAt", "blockCostsAt"]),
+        ("A station sheet", ["i~ a station sheet of 32 bytes: eight fixed ticks, then eight speeds in millimetres per tick, 2 bytes each"],
+         ["sheetSize", "sheetFixedAt", "sheetSpeedsAt"]),
         ("The reply", ["Q: The reply holds"], ["replySize", "replyTicketAt", "replyTickAt", "replyMarginAt"]),
     ]),
     ("model/specs/Image.antt", "The image", [
@@ -154,7 +158,7 @@ FILES = [
         ("Zeros", ["Q: Declined", "Q~ open gives zeros"], ["zeros"]),
     ]),
     ("model/specs/Admission.antt", "An offer", [
-        ("An order block read", ["I: An order block is"], ["blockOf"]),
+        ("An order block read, and its bytes", ["I: An order block is"], ["blockOf", "blockBytes"]),
         ("The due tick", ["C: Its due-in is", "C: Due tick ="], ["dueOf"]),
         ("The newcomer's record", ["D: Offer tries the sums", "D: For an accepted order T", "R: It waits at station 1"], ["arrival"]),
         ("A live order that the newcomer joins", ["D: For an accepted order T", "D: Offer tries the sums"], ["joinedBy", "joinedLive"]),
@@ -168,16 +172,28 @@ FILES = [
         ("What offer gives", ["Q: Done: open gives", "Q: Declined"], ["offerAnswer"]),
         ("What quote gives", ["D: Quote gives"], ["quoteAnswer"]),
     ]),
+    ("model/specs/Formats.antt", "Order by paper format", [
+        ("What it gives", ["i: An order may give"], ["FormatOrder", "fixedTicks", "speeds"]),
+        ("The long sides", ["i: The long sides come", "i: Formats are numbered"], ["longSides", "longSide"]),
+        ("The rule of the table", [FURTHER, "i~ a table of ISO 216 sizes"], ["halving", "bothSeriesHalve"]),
+        ("The cost at a station", ["i: Cost at a station"], ["formatCost"]),
+        ("The block that it stands for", ["i~ block fields beyond N are zero", "i~ one rank byte for all stations", "i~ the same order written as a block"],
+         ["upToStation", "formatBlock"]),
+        ("Questions 5, 19 and 20, then 6 to 12", ["i: Refused: 19", "i: A sheet of another length"], ["formatQuestions", "formatOrderQuestions"]),
+    ]),
     ("model/specs/Calls.antt", "The calls", [
         ("What a call returns and leaves", ["C: The cabinet's C firmware"], ["Result"]),
         ("The number, the image, the reply", ["Q: The reply holds", "Q: After 1", "Q: Every decline"], ["result"]),
         ("Questions 1 to 4", ["Q: Is the lent reply", "Q: Is the image", "Q: Mark and version", "Q: Image sound?"],
          ["replyQuestion", "lengthQuestion", "imageQuestions"]),
         ("Open", ["Q: N from 1 to 8?", "Q~ Open takes 1, 2, 14", "Q~ open gives zeros and a fresh image (clock 0, next ticket 1)"], ["openNumber", "openCall"]),
+        ("What an offer and a quote leave of a block", ["Q~ offer gives the ticket, acceptance tick + delay sum, and the smallest margin over newcomer and live"
+                                                        " orders", "D: Quote gives"], ["offered", "quoted"]),
         ("Offer", ["Q~ quote and offer 1 to 12",
                    "Q~ offer gives the ticket, acceptance tick + delay sum, and the smallest margin over newcomer and live orders"],
          ["offerNumber", "offerCall"]),
         ("Quote", ["D: Quote gives"], ["quoteCall"]),
+        ("Offer and quote by format", ["i: Offered or quoted", "i: Refused: 19"], ["formatNumber", "offerFormatCall", "quoteFormatCall"]),
         ("Advance", ["Q: Clock below", "Q: Open takes", "Q~ advance gives the ticket out or 0, the new clock, and 0"],
          ["advanceNumber", "advanceAnswer", "advanceCall"]),
         ("A call by its kind", ["R~ which call it is, its arguments other than image and reply"], ["Call", "perform"]),
@@ -194,7 +210,7 @@ FILES = [
         ("Advance returning 0", ["R: Advance returning 0"], ["entryView", "startsIn", "tickIn"]),
         ("Out", ["R: An order that is out", "T: An order with nothing to go"], ["leaves", "leaveIn"]),
         ("The course of one tick, in the book", ["R~ the course of one tick, on the book's own stations and clock"], ["advanceIn"]),
-        ("The book is fed", ["R: The book is fed", "R: Quote, and any call"], ["feed"]),
+        ("The book is fed", ["R: The book is fed", "R: Quote, and any call", "i~ in demand 3's lists and in the run book it counts as that block"], ["feed"]),
         ("Who is out at a tick", ["R~ the ticket out in the book, or 0"], ["isAt", "outAt"]),
     ]),
     ("model/specs/Runs.antt", "Lists of calls", [
@@ -202,7 +218,7 @@ FILES = [
         ("The image and the book beside it", ["R~ gets the image as the call before left it", "R~ The book is fed the calls in turn"], ["Run"]),
         ("The beginning", ["R: A list starts"], ["started"]),
         ("Call after call", ["R: Each call gets", "R: The book is fed"], ["outcome", "afterCall", "afterAll"]),
-        ("Which lists", ["R: Demand 3 speaks of"], ["Allowed", "AllAllowed"]),
+        ("Which lists", ["R: Demand 3 speaks of", "i~ in demand 3's lists and in the run book it counts as that block"], ["Allowed", "AllAllowed"]),
     ]),
     ("claims/specs/Demand3.antt", "Demand 3", [
         ("Each accepted order", ["R: After every such list"], ["InTime"]),
@@ -231,11 +247,24 @@ FILES = [
     ("image_laws/specs/Iff.antt", "Exactly when", [
         ("Each from the other", OWN, ["_⇔_"]),
     ]),
+    ("image_laws/specs/InRange.antt", "Bytes", [
+        ("Fields of one byte, of two and of four", ["I~ eight ranks (1 each)", "i~ 2 bytes each", "I~ due-in (4)"], ["byteLimit", "halfLimit", "wordLimit"]),
+        ("Every entry below a limit", ["C~ with numbers and byte buffers"], ["Below"]),
+    ]),
+    ("image_laws/specs/Usable.antt", "Questions 1 to 4, as facts", [
+        ("What is lent is usable", ["Q: Is the lent reply", "Q: Is the image", "Q: Mark and version", "Q: Image sound?"], ["Usable"]),
+    ]),
+    ("call_laws/specs/FormatExact.antt", "Orders by format, as facts", [
+        ("Questions 19, 5 and 20", ["i: Refused: 19", "i~ A sheet of another length gets 5"], ["Known", "Unknown", "Readable"]),
+        ("It can be written as a block", ["i~ the same order written as a block", "I: An order block is"], ["Writable"]),
+        ("The call on the block, and the numbers before it", ["i: Offered or quoted", "i: Refused: 19", "i: A sheet of another length"],
+         ["FormatAt", "FormatAsBlock"]),
+    ]),
     ("claims/specs/ByHistory.antt", "Quotes and offers by the book", [
         ("With the newcomer", ["D: Offer tries the sums"], ["tried", "arriving"]),
         ("On time, late, margin", ["D: T is on time", "D: Margin is"], ["OnTime", "Late", "marginOf"]),
         ("Questions before 11 that a list can fail", ["Q: Is the lent reply", "Q: Order block 28 bytes?", "Q: Costs of stations", "Q: Due-in 0 to",
-                                                      "Q: Due tick at most", "Q: Fewer than 32"], ["Considered"]),
+                                                      "Q: Due tick at most", "Q: Fewer than 32", "i: Refused: 19"], ["Considered"]),
         ("The smallest margin", ["Q~ the smallest margin over newcomer and live orders", "Q~ margin (signed), 4 bytes each"], ["Smallest"]),
         ("Number, tick and margin", ["Q: Newcomer on time?", "Q: Every live order still",
                                      "Q~ offer gives the ticket, acceptance tick + delay sum, and the smallest margin over newcomer and live orders",
@@ -243,13 +272,6 @@ FILES = [
                                      "W~ declining every offer (demand 2, 11 and 12 only when late); one fixed tick for every order (demand 2's sum)",
                                      "W~ an invented tick or margin (the delay sum)"], ["Judged"]),
         ("The image in step with the book", [FURTHER, "W~ with company taken from the history of calls and not from stored sums"], ["InStep", "ByHistory"]),
-    ]),
-    ("image_laws/specs/InRange.antt", "Bytes", [
-        ("Fields of one byte", ["I~ eight ranks (1 each)"], ["byteLimit"]),
-        ("Every entry below a limit", ["C~ with numbers and byte buffers"], ["Below"]),
-    ]),
-    ("image_laws/specs/Usable.antt", "Questions 1 to 4, as facts", [
-        ("What is lent is usable", ["Q: Is the lent reply", "Q: Is the image", "Q: Mark and version", "Q: Image sound?"], ["Usable"]),
     ]),
     ("call_laws/specs/Considered.antt", "Questions 5 to 10, as facts", [
         ("Questions 6 to 10", ["Q: Costs of stations", "Q: Due-in 0 to", "Q: Due tick at most", "Q: A ticket left?", "Q: Fewer than 32"], ["Fitting"]),
@@ -313,7 +335,8 @@ FILES = [
     ]),
     ("call_laws/specs/OfferKept.antt", "What an offer and a quote leave", [
         ("A done offer", FURTHER, ["OfferKeepsSound"]),
-        ("A quote", ["D: Quote gives"], ["QuotedAt", "QuoteGivesOffer"]),
+        ("A quote", ["D: Quote gives"], ["QuotedAs", "QuoteGivesOffer"]),
+        ("A quote by format", ["D: Quote gives", "i: Offered or quoted"], ["FormatQuoteGivesOffer"]),
     ]),
     ("call_laws/specs/AdvanceKept.antt", "What an advance leaves", [
         ("A done advance", FURTHER, ["AdvanceKeepsSound"]),
@@ -335,7 +358,7 @@ FILES = [
         ("The base", ["S: Base of task t"], ["base"]),
     ]),
     ("plan_model/specs/Response.antt", "The response of a task", [
-        ("Rounded up", ["S~ (R / period of i, rounded up)"], ["roundedUp", "releases"]),
+        ("Releases that count", ["S~ (R / period of i, rounded up)"], ["releases"]),
         ("The share of another task", ["S~ (R / period of i, rounded up) × largest cost of i"], ["share"]),
         ("The other tasks", ["S~ over the other tasks i"], ["others"]),
         ("What replaces R", ["S~ replace R by base + the sum, over the other tasks i, of (R / period of i, rounded up) × largest cost of i"], ["next"]),
@@ -422,6 +445,16 @@ FILES = [
         ("Eight stations", ["E: P: N = 8"], ["eightStations"]),
         ("All of them", ["E: Marked P are proved"], ["paperCases"]),
     ]),
+    ("model/specs/FormatCases.antt", "Worked cases of orders by format", [
+        ("A station sheet, and an order by format", ["i: An order may give"], ["sheetOf", "byFormat"]),
+        ("Rows for offers and quotes", ["i: Offered or quoted"], ["takes", "tooLate", "refuses", "tells"]),
+        ("A3 and A5 as X and Y", ["i: Cost at a station", "E: N = 2 unless named"], ["twoStations"]),
+        ("The first two, by format", ["i: Offered or quoted", "E: P: X, due-in 20", "E: P: then Y at 0", "E: X is out at 5"], ["firstTwoByFormat"]),
+        ("Late, by format", ["i: Offered or quoted", "E: P: X with due-in 6"], ["lateByFormat"]),
+        ("Each long side", ["i: The long sides come", "i: Formats are numbered"], ["told", "tenFormats"]),
+        ("Each number", ["i: Refused: 19", "i: A sheet of another length"], ["formatNumbers"]),
+        ("All of them", ["i: Offered or quoted"], ["formatCases"]),
+    ]),
     ("claims/specs/WorkedCases.antt", "The table of worked cases", [
         ("A case, and that it holds", ["W~ The cases marked P form one proved table"], ["Case", "CaseHolds", "EachHolds"]),
         ("The table", ["E: Marked P are proved", "E: P: both plan tables", "W~ The cases marked P form one proved table"], ["paperTable", "WorkedCases"]),
@@ -461,9 +494,10 @@ ELSEWHERE = [
     ("S~ the offers do not rest on it", "the order of this page shows it: plan's definitions come after all that the claims about calls rest on"),
     ("E: N = 1, 32 orders", "not marked P; computed all the same, `thirtyTwoLive` (crates/model/specs/Cases.antt), and made by the program crates/cases"),
     ("W: Every operation open", "the contracts, which stand in the section after the definitions; docs/CLAIMS.md, point by point"),
-    ("W: It is due whole", "`demand-3` (crates/claims/proofs/Demand3.antt), of all four calls"),
+    ("W: It is due whole", "`demand-3` (crates/claims/proofs/Demand3.antt), of all calls"),
     ("W~ a program compares the remaining cases with stored output, and long runs with a second simulator by other hands",
      "the programs crates/cases and crates/soak; tests/README.md says what is compared with what"),
+    ("i: Counters know", "why it was asked for"),
     ("X: The core carries", "a form of the code: crates/image/src/pipeline.rt"),
     ("X: After it, a station's", "a form of the code: crates/tick/src/entries.rt"),
 ]
@@ -553,6 +587,8 @@ CODE = [
     ("crates/dispatcher/src/open.rt", "dispatcher_open", ["openCall"]),
     ("crates/dispatcher/src/offer.rt", "dispatcher_quote", ["quoteCall"]),
     ("crates/dispatcher/src/offer.rt", "dispatcher_offer", ["offerCall"]),
+    ("crates/dispatcher/src/format.rt", "dispatcher_quote_format", ["quoteFormatCall"]),
+    ("crates/dispatcher/src/format.rt", "dispatcher_offer_format", ["offerFormatCall"]),
     ("crates/dispatcher/src/advance.rt", "dispatcher_advance", ["advanceCall"]),
     ("crates/plan_core/src/lent.rt", "plan", ["planNumber", "afterPlan"]),
     ("crates/plan_text/src/print.rt", "print_plan", ["planOutput"]),
@@ -1190,7 +1226,7 @@ def opening_of(values, facts, sections):
 
 def code_lines():
     """The contracts of the open functions, and the records that they are."""
-    lines = wrapped("Not part of `Claims`, but what joins it to the code that is built: the contracts of the four C functions, of plan over a lent list and of"
+    lines = wrapped("Not part of `Claims`, but what joins it to the code that is built: the contracts of the C functions, of plan over a lent list and of"
                     " what the plan program prints, in which the definitions above are cited. `image .entry` is the buffer before the call and `image .exit`"
                     " after it, `now` is what it holds, and r what is returned. What stands between `⌜` and `⌝` is the fact that is promised, and"
                     " `ensures within` promises one more. There is no `requires`: the contracts hold for all arguments. In the records, `sets l i vs` is"
