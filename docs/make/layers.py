@@ -136,8 +136,8 @@ dispatcher::offer::dispatcher_offer           the C entry: image, order block an
         image::decode::order_at               a record of the image as an Order
           image::reader::u32_at               four bytes as a number
   dispatcher::replies::put_decline            after a "no": its number into the reply, but for 1; the call ends here
-  dispatcher::offer_parts::offered            after "yes" to all five
-    admission::block::block_of                the order block as a Block
+  admission::block::block_of                  after "yes" to all five: the order block as a Block
+  dispatcher::offer_parts::offered            what is left, the same for a block that stands for an order by format
     admission::order_questions::offer         questions 6 to 12
       image::decode::decode                   the state that the image says, once 6 to 10 pass
       admission::margins::try_all             each live order with the arrival in its interference set

@@ -5,7 +5,7 @@ use Prim.Native.Nat.{ℕ, zero, suc, _+_, _-_, _*_, _/_, _%_}
 use lib.Dec.{ltb}
 use Rattle.model.specs.Limits.{maxStations}
 use Rattle.model.specs.Lists.{upward}
-use Rattle.trials.specs.Block.{blockBytes}
+use Rattle.model.specs.Admission.{blockBytes}
 
 -- One step of the generator; so many steps; and a jump to another place of its cycle, so that the parts of an order are drawn apart from one another.
 unfoldable pub stepped : ℕ → ℕ
@@ -67,4 +67,4 @@ drawnBlock s n =
     let b = stepped a in
     let c = stepped b in
     let stations = drawnFor (picked b 24) n in
-    blockBytes (dueIn (picked c 8) (apart s)) (ranks (apart b) stations) (costs (apart a) stations (mostCost (picked a 64)))
+    blockBytes (record { «due_in» = dueIn (picked c 8) (apart s); ranks = ranks (apart b) stations; costs = costs (apart a) stations (mostCost (picked a 64)) })

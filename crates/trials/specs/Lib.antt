@@ -1,5 +1,4 @@
--- Order blocks, and those that a long run draws.
-pub mod Block
+-- The order blocks that a long run draws.
 pub mod Draw
 -- What a program prints of a call.
 pub mod CaseLines

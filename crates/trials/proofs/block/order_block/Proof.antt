@@ -5,7 +5,7 @@ use lib.ListN.{length, length-append}
 use borrow.Author.Needs.{needs}
 use Rattle.lists.proofs.Stores.{stored-then, stored-all}
 use Rattle.image.proofs.encode.Rows.{length-halves}
-use Rattle.trials.specs.Block.{blockBytes}
+use Rattle.model.specs.Admission.{blockBytes}
 use Rattle.trials.proofs.block.order_block.Statement.{statement}
 use Rattle.trials.proofs.block.order_block.Tie as tie
 
