@@ -1,9 +1,10 @@
 // Document 02, (i), "Order by paper format": the order block that such an order stands for. Its costs are worked out from the
 // table of long sides and from the station sheet; everything after the block is that of any order.
 ghost use mathlib.Core.Path.{_≡_};
+ghost use mathlib.Core.Bool.{cond};
 ghost use Prim.Native.Nat.{ℕ, _+_, _≤_, _<_};
 ghost use lib.ListN.{take};
-ghost use lib.Dec.{leb};
+ghost use lib.Dec.{leb, ltb};
 ghost use Rattle.model.specs.Limits.{maxStations, maxFormat};
 ghost use Rattle.model.specs.Lists.{at, all, roundedUp};
 ghost use Rattle.model.specs.Formats.{longSide, upToStation};
@@ -62,15 +63,21 @@ fn station_costs(n: u32, side: u32, fixed: [u16; 8], speeds: [u16; 8]) -> [u16; 
     row
 }
 
-// One rank at stations 1 to n. The rank beyond n as well does not meet the promise.
+fn rank_at(n: u32, k: usize, rank: u8) -> u8
+    ensures { λ r. ⌜ r ≡ cond (ltb k n) rank 0 ⌝ }
+{
+    if k < n as usize { rank } else { 0 }
+}
+
+// One rank at stations 1 to n. The rank beyond n as well does not meet the promise. All eight entries are written: a loop up to
+// n is compiled to a call.
 fn station_ranks(n: u32, rank: u8) -> [u8; 8]
-    requires { ⌜ n ≤ maxStations ⌝ }
     ensures { λ r. ⌜ r ≡ upToStation n (λ k. rank) ⌝ }
 {
     let mut row: [u8; 8] = [0; 8];
     let mut k: usize = 0;
-    while k < n as usize {
-        row[k] = rank;
+    while k < 8 {
+        row[k] = rank_at(n, k, rank);
         k += 1;
     }
     row

@@ -1,10 +1,11 @@
 -- The table of long sides by its entries, and a row that is filled up to a station.
 use mathlib.Core.Path.{_≡_, refl}
+use mathlib.Core.Bool.{cond}
 use mathlib.Core.List.{_++_}
 use Prim.Native.Nat.{ℕ, zero, suc, _-_, _≤_, _<_}
 use native.Mathlib.Omega.{arith}
 use lib.ListN.{getD, replicate}
-use lib.Dec.{leb}
+use lib.Dec.{leb, ltb}
 use borrow.Author.Tests.{lt-ltb, le-ltb}
 use Rattle.model.specs.Limits.{maxStations}
 use Rattle.model.specs.Lists.{all, upward}
@@ -42,3 +43,8 @@ filled (suc (suc (suc (suc (suc (suc zero)))))) entry few = refl
 filled (suc (suc (suc (suc (suc (suc (suc zero))))))) entry few = refl
 filled (suc (suc (suc (suc (suc (suc (suc (suc zero)))))))) entry few = refl
 filled (suc (suc (suc (suc (suc (suc (suc (suc (suc n))))))))) entry few = absurd (let w : ⊥ = omega arith in w)
+
+-- One entry at each station up to n.
+pub same-up-to : (n x : ℕ) → upward 0 maxStations (λ i. cond (ltb i n) x 0) ≡ upToStation n (λ station. x)
+unfolding upToStation upward
+same-up-to n x = refl

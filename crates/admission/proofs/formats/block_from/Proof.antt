@@ -22,7 +22,7 @@ station-costs-requires c κs =
     (few-moving _ _ (top .pre), c .long-side .ensures .1, rw (c .before .eight-halves-at2 .ensures) (top .pre .moving))
 
 station-ranks-requires : tie.Need-station-ranks-requires
-station-ranks-requires c κs = few-moving _ _ (c .before .before .before .before .before .pre)
+station-ranks-requires c κs = search needs
 
 returns : tie.Need-returns
 unfolding heldBlock formatCost fixedTicks speeds
