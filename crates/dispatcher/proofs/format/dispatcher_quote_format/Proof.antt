@@ -8,6 +8,7 @@ use Rattle.model.specs.Formats.{FormatOrder, formatQuestions}
 use Rattle.model.specs.Calls.{replyQuestion, imageQuestions}
 use Rattle.image_laws.proofs.Questions.{replied}
 use Rattle.image_laws.proofs.Read.{decode-n}
+use Rattle.admission.specs.Formats.{heldBlock}
 use Rattle.dispatcher.proofs.format_parts.SheetLaws.{format-usable, readable, quote-taken, quote-declined}
 use Rattle.dispatcher.proofs.format_parts.HeldLaws.{quote-held}
 use Rattle.dispatcher.proofs.format.dispatcher_quote_format.Statement.{statement}
@@ -63,7 +64,8 @@ returns-2 c =
     let passed = read .before .before in
     let f = order (start-of passed) in
     let pass = all-pass passed in
-    rw (← quote-taken _ f _ pass, ← quote-held _ f _ (readable _ f _ pass), ← decode-n _, ← read .wide32 .ensures, ← block .block-from .ensures) (quoted .quoted .ensures)
+    let block-is : block .block-from .result ≡ heldBlock (decode (start-of passed .args .image .now) .n) f = rw (← decode-n _, ← read .wide32 .ensures) (block .block-from .ensures) in
+    rw (← quote-taken _ f _ pass, ← quote-held _ f _ (readable _ f _ pass), ← block-is) (quoted .quoted .ensures)
 
 pub dispatcher-quote-format-spec : {M : Type 1} → statement M
 dispatcher-quote-format-spec =
