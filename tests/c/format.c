@@ -5,7 +5,7 @@
  * here. Where the costs stand here, too, the block that the order stands for is quoted or offered on a copy, and has to give the same number, reply and image.
  * Each pair of a quote and an offer is made with the buffers at several places. The image of a quote and the sheet are read only. The first check that does
  * not hold ends the program with what was called. */
-#include "image.h"
+#include "quotes_and_offers.h"
 
 /* The order that the next calls get. For stations that the cabinet does not have the sheet holds what is wrong for any other: speed 0, and too many ticks. */
 static uint32_t format, due_in;
@@ -14,7 +14,7 @@ static size_t sheet_length;
 static int is_block; /* whether it stands for a block, which has these costs */
 static uint16_t costs[MAX_STATIONS];
 
-static struct buffer image_lent, sheet_lent, reply_lent;
+static struct buffer sheet_lent;
 static unsigned long seen[2][DISPATCHER_BAD_SPEED + 1], blocks; /* quotes and offers, by number; and how many had a block beside them */
 
 static void station(int j, uint32_t fixed, uint32_t speed)
@@ -39,8 +39,6 @@ static void order(uint32_t of_format, uint32_t with_due_in, uint8_t with_rank, c
 }
 
 /* ---- calls ---- */
-
-enum { QUOTE, OFFER };
 
 /* "it gets the reply, and leaves the image, that the same order written as a block does" */
 static void expect_block(int call, uint32_t number, const uint8_t *reply)
@@ -79,45 +77,12 @@ static void one_call(int call, const char *name, int place, uint32_t number, uin
     }
     unseal(&sheet_lent);
 
-    /* "The reply holds number (0 for done), ticket, tick, margin (signed), 4 bytes each"; "After 1 the reply is untouched." */
-    put4(expected + REPLY_NUMBER_AT, number);
-    put4(expected + REPLY_TICKET_AT, call == QUOTE ? 0 : ticket);
-    put4(expected + REPLY_TICK_AT, tick);
-    put4(expected + REPLY_MARGIN_AT, (uint32_t)margin);
-    expect_bytes(&reply_lent, number == 1 ? reply_before : expected, "reply");
-    expect_bytes(&image_lent, call == OFFER && number == 0 ? after : image, "image");
+    expect_reply_and_image(call, number, ticket, tick, margin, reply_before, expected);
     expect_bytes(&sheet_lent, sheet, "sheet");
     seen[call][number]++;
     /* A block gets these numbers for the same reasons. The others are about lengths, the image, the format or the sheet. */
     if (is_block && (number == 0 || (number >= 6 && number <= 12)))
         expect_block(call, number, expected);
-}
-
-static void both_calls(const char *name, int place, uint32_t number, uint32_t ticket, uint32_t tick, int32_t margin)
-{
-    one_call(QUOTE, name, place, number, ticket, tick, margin);
-    one_call(OFFER, name, place, number, ticket, tick, margin);
-}
-
-static void declined(const char *name, uint32_t number, int32_t margin)
-{
-    for (int place = 0; place < PLACES; place++)
-        both_calls(name, place, number, 0, 0, margin);
-}
-
-/* Accepted, and `after` is the image from now on. */
-static void accepted(const char *name, uint32_t ticket, uint32_t tick, int32_t margin)
-{
-    for (int place = 0; place < PLACES; place++)
-        both_calls(name, place, 0, ticket, tick, margin);
-    memcpy(image, after, IMAGE_SIZE);
-}
-
-/* `after` begins as the image is. */
-static void begin_after(uint8_t live, uint32_t next)
-{
-    memcpy(after, image, IMAGE_SIZE);
-    counts(after, live, next);
 }
 
 /* ---- formats and costs ---- */

@@ -4,13 +4,13 @@
  * reply and image after each call, and what is left alone. What to expect is worked out by hand from document 01, written out here or in image.h, with the
  * places of ../layout.h, and taken from nowhere else. Each pair of a quote and an offer is made with the buffers at several places. The image of a quote and
  * the order block are read only. The first check that does not hold ends the program with what was called. */
-#include "image.h"
+#include "quotes_and_offers.h"
 
 /* The order block that the next calls get. */
 static uint8_t order[ROOM / 2];
 static size_t order_length;
 
-static struct buffer image_lent, order_lent, reply_lent;
+static struct buffer order_lent;
 static unsigned long seen[2][13]; /* quotes and offers, by number */
 
 static void block(uint32_t due_in, const uint8_t *ranks, const uint16_t *costs)
@@ -21,8 +21,6 @@ static void block(uint32_t due_in, const uint8_t *ranks, const uint16_t *costs)
 }
 
 /* ---- calls ---- */
-
-enum { QUOTE, OFFER };
 
 static void one_call(int call, const char *name, int place, uint32_t number, uint32_t ticket, uint32_t tick, int32_t margin)
 {
@@ -45,43 +43,9 @@ static void one_call(int call, const char *name, int place, uint32_t number, uin
     }
     unseal(&order_lent);
 
-    /* "The reply holds number (0 for done), ticket, tick, margin (signed), 4 bytes each"; "After 1 the reply is untouched." */
-    put4(expected + REPLY_NUMBER_AT, number);
-    put4(expected + REPLY_TICKET_AT, call == QUOTE ? 0 : ticket);
-    put4(expected + REPLY_TICK_AT, tick);
-    put4(expected + REPLY_MARGIN_AT, (uint32_t)margin);
-    expect_bytes(&reply_lent, number == 1 ? reply_before : expected, "reply");
-    expect_bytes(&image_lent, call == OFFER && number == 0 ? after : image, "image");
+    expect_reply_and_image(call, number, ticket, tick, margin, reply_before, expected);
     expect_bytes(&order_lent, order, "order");
     seen[call][number]++;
-}
-
-static void both_calls(const char *name, int place, uint32_t number, uint32_t ticket, uint32_t tick, int32_t margin)
-{
-    one_call(QUOTE, name, place, number, ticket, tick, margin);
-    one_call(OFFER, name, place, number, ticket, tick, margin);
-}
-
-/* Declined: "ticket and tick are 0, margin is 0 save for 11 and 12". */
-static void declined(const char *name, uint32_t number, int32_t margin)
-{
-    for (int place = 0; place < PLACES; place++)
-        both_calls(name, place, number, 0, 0, margin);
-}
-
-/* Accepted, and `after` is the image from now on. */
-static void accepted(const char *name, uint32_t ticket, uint32_t tick, int32_t margin)
-{
-    for (int place = 0; place < PLACES; place++)
-        both_calls(name, place, 0, ticket, tick, margin);
-    memcpy(image, after, IMAGE_SIZE);
-}
-
-/* `after` begins as the image is. */
-static void begin_after(uint8_t live, uint32_t next)
-{
-    memcpy(after, image, IMAGE_SIZE);
-    counts(after, live, next);
 }
 
 /* ---- document 01's counter examples ---- */
