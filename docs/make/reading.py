@@ -175,7 +175,7 @@ FILES = [
     ("model/specs/Formats.antt", "Order by paper format", [
         ("What it gives", ["i: An order may give"], ["FormatOrder", "fixedTicks", "speeds"]),
         ("The long sides", ["i: The long sides come", "i: Formats are numbered"], ["longSides", "longSide"]),
-        ("The rule of the table", [FURTHER, "i~ a table of ISO 216 sizes"], ["halving", "bothSeriesHalve"]),
+        ("The rule of the table", [FURTHER, "i~ a table of ISO 216 sizes"], ["halving", "LongSidesHalve"]),
         ("The cost at a station", ["i: Cost at a station"], ["formatCost"]),
         ("The block that it stands for", ["i~ block fields beyond N are zero", "i~ one rank byte for all stations", "i~ the same order written as a block"],
          ["upToStation", "formatBlock"]),

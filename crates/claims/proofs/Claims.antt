@@ -1,5 +1,5 @@
 -- All claims, each from where it is proved.
-use Rattle.model.proofs.FormatCases.{both-series-halve}
+use Rattle.model.proofs.FormatCases.{long-sides-halve}
 use Rattle.plan_model.proofs.Meaning.{meaning}
 use Rattle.plan_model.proofs.Cases.{chapter-six-holds, largest-response-holds}
 use Rattle.plan_model.proofs.Leaves.{leaves, not-read}
@@ -28,7 +28,7 @@ claims =
       quote-gives-offer = quote-gives-offer;
       format-as-block = format-as-block;
       format-quote-gives-offer = format-quote-gives-offer;
-      long-sides = both-series-halve;
+      long-sides = long-sides-halve;
       ticks = ticks;
       ticks-over-runs = after-every-list TicksAsAsked ticks-of;
       timely = timely;

@@ -5,7 +5,7 @@ use mathlib.Core.Path.{_≡_}
 use mathlib.Core.Bool.{true}
 use mathlib.Core.List.{List}
 use Prim.Native.Nat.{ℕ}
-use Rattle.model.specs.Formats.{bothSeriesHalve}
+use Rattle.model.specs.Formats.{LongSidesHalve}
 use Rattle.plan_model.specs.declared.Task.{Task}
 use Rattle.plan_model.specs.Meaning.{Meaning, Leaves, NotRead}
 use Rattle.plan_model.specs.Cases.{isPrinted, chapterSix, largestResponse}
@@ -36,7 +36,7 @@ pub record Claims : Type 0 where
   pub format-as-block : FormatAsBlock
   pub format-quote-gives-offer : FormatQuoteGivesOffer
   -- The rule of ISO 216, in the table of long sides.
-  pub long-sides : bothSeriesHalve ≡ true
+  pub long-sides : LongSidesHalve
   -- "demand 2's starts": the course of each tick, when an order may start first, and the way of each order, of every image of bytes and after every list of calls.
   pub ticks : OfEveryImage TicksAsAsked
   pub ticks-over-runs : AfterEveryList TicksAsAsked

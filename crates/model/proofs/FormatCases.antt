@@ -1,7 +1,6 @@
 -- The worked cases of orders by format hold, by computation, case by case and row by row; and the table of long sides has the rule of ISO 216.
-use mathlib.Core.Path.{_≡_, refl}
-use mathlib.Core.Bool.{true}
-use Rattle.model.specs.Formats.{bothSeriesHalve}
+use mathlib.Core.Path.{refl}
+use Rattle.model.specs.Formats.{halving, LongSidesHalve}
 use Rattle.model.specs.Table.{held, Hold, AllHold}
 use Rattle.model.specs.Cases.{X, accepts, advances}
 use Rattle.model.specs.FormatCases.{sheetOf, byFormat, takes, tooLate, refuses, tells, twoStations, firstTwoByFormat, lateByFormat, told, tenFormats, formatNumbers, formatCases}
@@ -27,6 +26,6 @@ pub format-cases-hold : AllHold formatCases
 unfolding formatCases
 format-cases-hold = (first-two-by-format-hold, (late-by-format-hold, (ten-formats-hold, (format-numbers-hold, tt))))
 
-pub both-series-halve : bothSeriesHalve ≡ true
-unfolding bothSeriesHalve
-both-series-halve = refl
+pub long-sides-halve : LongSidesHalve
+unfolding halving
+long-sides-halve = (refl, refl)

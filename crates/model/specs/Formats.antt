@@ -1,4 +1,5 @@
 -- Document 02, (i), "Order by paper format": the order that names a format, what is asked of it, and the order block that it stands for.
+use mathlib.Core.Path.{_≡_}
 use mathlib.Core.Bool.{Bool, true, cond, _&&_}
 use mathlib.Core.List.{List, [], _∷_, _++_}
 use Prim.Native.Nat.{ℕ, _+_, _/_}
@@ -42,9 +43,9 @@ halving (a ∷ []) = true
 halving (a ∷ b ∷ []) = true
 halving (a ∷ b ∷ c ∷ l) = eqb c (a / 2) && halving (b ∷ c ∷ l)
 
-unfoldable pub bothSeriesHalve : Bool
-unfolding halving
-bothSeriesHalve = halving (take 5 longSides) && halving (drop 5 longSides)
+-- The table has it in both series.
+abbrev pub LongSidesHalve : Type 0
+LongSidesHalve = (halving (take 5 longSides) ≡ true) × (halving (drop 5 longSides) ≡ true)
 
 -- Document 02, (i): "Cost at a station is the fixed ticks plus long side divided by speed, rounded up." It is a number without a width: what no two bytes hold
 -- is not cut, and out of range.

@@ -17,13 +17,15 @@ use Rattle.model.specs.Calls.{advanceCall}
 use Rattle.model.specs.Runs.{started, outcome, afterCall, afterAll}
 use Rattle.model.specs.Table.{readRow}
 use Rattle.model.specs.Cases.{order, X}
+use Rattle.model.specs.FormatCases.{byFormat}
 use Rattle.schedule.specs.Valid.{Busy}
 use Rattle.schedule.specs.Starts.{AtStart}
 use Rattle.image_laws.specs.Usable.{Usable}
 use Rattle.call_laws.specs.AdvanceExact.{ExactAt}
 use Rattle.claims.specs.Images.{TickAsAsked, TimelyAt}
 use Rattle.claims.proofs.Claims.{claims}
-use Rattle.uses.specs.DefiniteLists.{someImage, someReply, opened, oneCalls, one, longCalls, long, P, endImage}
+use Rattle.uses.specs.DefiniteLists.{someImage, someReply, opened, oneCalls, one, longCalls, long, allStations, eightFormatCalls, P, endImage}
+use Rattle.uses.proofs.DefiniteLists.{eight-formats-allowed}
 use Rattle.uses.proofs.Words.{Figure, Bytes, Yes, of-one, all-bytes}
 use Rattle.uses.proofs.ByHistory.{one-allowed, long-allowed}
 use Rattle.uses.proofs.Offers.{one-bytes, one-usable}
@@ -113,6 +115,13 @@ long-ticks = claims .ticks-over-runs 8 (omega arith) (omega arith) someImage ref
 long-clock : Figure 2
 unfolding readRow opened longCalls long order started afterCall outcome afterAll
 long-clock = long-ticks .clock-after
+
+-- After a list with an order by format: the ninth advance gives ticket 2, which is out by it, and the clock is 9.
+after-formats : Figure 9 × Figure 2
+unfolding readRow opened eightFormatCalls order byFormat allStations started afterCall outcome afterAll
+after-formats =
+    let ticks = claims .ticks-over-runs 8 (omega arith) (omega arith) someImage refl someReply refl eightFormatCalls eight-formats-allowed someReply refl in
+    (ticks .clock-after, ticks .ticket-given)
 
 long-starts : Figure 1 × Figure 1
 unfolding readRow opened longCalls long order started afterCall outcome afterAll

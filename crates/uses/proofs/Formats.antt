@@ -6,15 +6,15 @@ use mathlib.Core.Bool.{true}
 use mathlib.Core.List.{List, [], _∷_, _++_}
 use Prim.Native.Nat.{ℕ, zero, suc, _/_, _≤_, _<_}
 use native.Mathlib.Omega.{arith}
-use lib.ListN.{length, take, replicate}
+use lib.ListN.{length, take, drop, replicate}
 use lib.Dec.{eqb}
 use borrow.Author.Tests.{eqb-true, eqb-false, leb-true}
 use Rattle.model.specs.Lists.{at, part}
 use Rattle.model.specs.Bytes.{word}
 use Rattle.model.specs.Layout.{clockAt, nextAt, replyTickAt, replyMarginAt}
 use Rattle.model.specs.Admission.{blockBytes}
-use Rattle.model.specs.Formats.{FormatOrder, speeds, formatCost, longSides, formatBlock, halving, bothSeriesHalve}
-use Rattle.model.specs.Calls.{Result, offerCall, quoteCall, formatNumber, offerFormatCall, quoteFormatCall}
+use Rattle.model.specs.Formats.{FormatOrder, speeds, formatCost, longSides, formatBlock, halving}
+use Rattle.model.specs.Calls.{Result, offerCall, quoteCall, quotingFormat, offeringFormat, formatNumber, offerFormatCall, quoteFormatCall}
 use Rattle.model.specs.Runs.{started, outcome, afterCall, afterAll}
 use Rattle.model.specs.Table.{lent, readRow}
 use Rattle.model.specs.Cases.{order, X, Y}
@@ -25,7 +25,7 @@ use Rattle.call_laws.specs.OfferKept.{QuotedAs}
 use Rattle.call_laws.specs.FormatExact.{Readable, Writable, FormatAt}
 use Rattle.claims.specs.ByHistory.{Judged}
 use Rattle.claims.proofs.Claims.{claims}
-use Rattle.uses.specs.DefiniteLists.{someReply, opened, oneCalls, one, longCalls, long, allStations, P}
+use Rattle.uses.specs.DefiniteLists.{someReply, opened, whole, oneCalls, one, longCalls, long, allStations, P}
 use Rattle.uses.proofs.Words.{Figure, Bytes, Yes}
 use Rattle.uses.proofs.Offers.{one-usable}
 use Rattle.uses.proofs.ByHistory.{taken, taken-back, late, late-back, delaying, delaying-back, considered, one-in-step, long-in-step}
@@ -187,13 +187,36 @@ format-quote-unheard : Bytes (replicate 15 238)
 unfolding readRow opened oneCalls one X Y byFormat twoStations started afterCall outcome afterAll
 format-quote-unheard = claims .format-quote-gives-offer (one .image) (yellow 7) (lent 15) .unheard refl
 
--- ---- the rule of the long sides, in figures
+-- What declines leave: 19 of an offer, and 12 of a quote, all but the margin, which is judged below.
+format-offer-declined : Figure 1 × Figure 16 × Bytes (19 ∷ replicate 11 0) × Bytes (19 ∷ replicate 15 0)
+unfolding readRow opened oneCalls one X Y byFormat twoStations started afterCall outcome afterAll
+format-offer-declined =
+    let d = claims .declines (offeringFormat (unnamed 11)) (one .image) someReply (eqb-false 19 0 refl) in
+    (ap (λ (image : List ℕ). word image clockAt) (d .image-left), d .reply-whole (eqb-false 19 1 refl), d .number-given (eqb-false 19 1 refl), d .all-given (eqb-false 19 1 refl) (eqb-false 19 11 refl) (eqb-false 19 12 refl))
+
+format-quote-declined : Figure 1 × Figure 16 × Bytes (12 ∷ replicate 11 0)
+unfolding readRow opened oneCalls one X Y byFormat twoStations started afterCall outcome afterAll
+format-quote-declined =
+    let d = claims .declines (quotingFormat (byFormat 6 100 0 twoStations)) (one .image) someReply (eqb-false 12 0 refl) in
+    (ap (λ (image : List ℕ). word image clockAt) (d .image-left), d .reply-whole (eqb-false 12 1 refl), d .number-given (eqb-false 12 1 refl))
+
+-- B1 by its block: costs 4 and 5, and so 12.
+blue-block : Figure 12 × Figure 12
+unfolding readRow opened oneCalls one X Y byFormat twoStations started afterCall outcome afterAll blockBytes
+blue-block =
+    let a = at-one (byFormat 6 100 0 twoStations) in
+    let w = a .considered (inr (inr refl)) in
+    (ap (λ (r : Result). r .number) (a .offers-as-block w), ap (λ (r : Result). r .number) (a .quotes-as-block w))
+
+-- ---- the rule of the long sides: of both series, and in figures
+both-series : (halving (take 5 longSides) ≡ true) × (halving (drop 5 longSides) ≡ true)
+both-series = claims .long-sides
+
 halves : (420 ≡ 841 / 2) × (297 ≡ 594 / 2) × (500 ≡ 1000 / 2) × (353 ≡ 707 / 2)
-unfolding bothSeriesHalve halving
+unfolding halving
 halves =
-    let both = and-both (halving (take 5 longSides)) _ (claims .long-sides) in
-    let a = and-both (eqb 420 (841 / 2)) _ (both .0) in
-    let b = and-both (eqb 500 (1000 / 2)) _ (both .1) in (
+    let a = and-both (eqb 420 (841 / 2)) _ (both-series .0) in
+    let b = and-both (eqb 500 (1000 / 2)) _ (both-series .1) in (
       eqb-true 420 (841 / 2) (a .0),
       eqb-true 297 (594 / 2) (and-both (eqb 297 (594 / 2)) _ (a .1) .0),
       eqb-true 500 (1000 / 2) (b .0),
@@ -271,6 +294,11 @@ unfolding readRow opened oneCalls one X Y byFormat twoStations started afterCall
 format-offers =
     let of = one-in-step .format-offers in
     (format-taken-back _ (of (yellow 7) someReply), format-late-back _ (of (yellow 6) someReply), format-delaying-back _ (of blue someReply))
+
+-- What the next call by format never returns: an offer that is done, a quote that is late.
+format-never : (_≢_ {A = ℕ} 0 2) × (_≢_ {A = ℕ} 11 9)
+unfolding readRow opened oneCalls one X Y byFormat twoStations started afterCall outcome afterAll
+format-never = (one-in-step .never-2 (whole (offeringFormat (yellow 7))), one-in-step .never-9 (whole (quotingFormat (yellow 6))))
 
 -- At 8 stations: cost 1 everywhere with due-in 10 is taken, and its tick is 10.
 long-format : Figure 0 × Figure 10 × (1 ≤ 250)

@@ -10,10 +10,11 @@ use borrow.Author.Tests.{eqb-false}
 use Rattle.model.specs.declared.Service.{Service}
 use Rattle.model.specs.Lists.{at}
 use Rattle.model.specs.State.{idle}
-use Rattle.model.specs.Calls.{offerCall, opening, quoting}
+use Rattle.model.specs.Calls.{offerCall, opening, quoting, quotingFormat, offeringFormat}
 use Rattle.model.specs.Runs.{Lent, started, outcome, afterCall, afterAll}
 use Rattle.model.specs.Table.{readRow}
 use Rattle.model.specs.Cases.{order, X, Y}
+use Rattle.model.specs.FormatCases.{byFormat, twoStations}
 use Rattle.schedule.specs.Course.{Course, waits, begins, works, leaves, is-out, Nowhere, OnlyAt}
 use Rattle.claims.specs.Images.{duringCalls, NotReopened}
 use Rattle.claims.proofs.Claims.{claims}
@@ -52,9 +53,10 @@ module _ {n t : ℕ} {costs : List ℕ} {k : ℕ} {entries : List Service} {late
   out-here (begins low some rest) beyond = absurd (omega (arith, low, beyond))
   out-here (is-out past nowhere rest) beyond = (past, nowhere, rest)
 
--- ---- N = 2: Y, with an open and a quote among the calls after it
+-- ---- N = 2: Y, with an open and a quote among the calls after it, a quote by format, and an order of no format
 twoLater : List Lent
-twoLater = whole (opening 9) ∷ whole (quoting Z) ∷ ticks 7
+unfolding byFormat twoStations
+twoLater = whole (opening 9) ∷ whole (quoting Z) ∷ whole (quotingFormat (byFormat 6 100 0 twoStations)) ∷ whole (offeringFormat (byFormat 11 20 0 twoStations)) ∷ ticks 7
 
 -- What the stations serve during each tick, with the ticks to go: X is ticket 1, Y ticket 2.
 abbrev twoAt : Service → Service → List Service
@@ -68,7 +70,7 @@ twoTicks =
     twoAt (serves 1 1) idle ∷ twoAt (serves 2 1) (serves 1 3) ∷ twoAt idle (serves 1 2) ∷ twoAt idle (serves 1 1) ∷ twoAt idle (serves 2 2) ∷ twoAt idle (serves 2 1) ∷ twoAt idle idle ∷ []
 
 two-during : duringCalls (offerCall (one .image) (Y 7 5) someReply .image) twoLater ≡ twoTicks
-unfolding readRow opened oneCalls one twoLater X Y Z started afterCall outcome afterAll
+unfolding readRow opened oneCalls one twoLater X Y Z byFormat twoStations started afterCall outcome afterAll
 two-during = refl
 
 abbrev TwoCourse : List (List Service) → Type 0
@@ -98,8 +100,8 @@ two-way c =
     ((a .0, a .1 1, a .1 2), (b .0, b .1, c1 .0 .there, c1 .0 .nowhere-else 2 (eqb-false 2 1 refl)), (d .0, d .1 1, d .1 2), (e .0, e .1 1, e .1 2), (f .0, f .1, g .0 .there, g .0 .nowhere-else 1 (eqb-false 1 2 refl)), (h .0 .there, h .0 .nowhere-else 1 (eqb-false 1 2 refl)), (o .0, o .1 1, o .1 2))
 
 two-not-reopened : NotReopened (offerCall (one .image) (Y 7 5) someReply .image) twoLater
-unfolding readRow opened oneCalls one twoLater X Y Z started afterCall outcome afterAll
-two-not-reopened = (eqb-false 14 0 refl, (tt, (tt, (tt, (tt, (tt, (tt, (tt, (tt, tt)))))))))
+unfolding readRow opened oneCalls one twoLater X Y Z byFormat twoStations started afterCall outcome afterAll
+two-not-reopened = (eqb-false 14 0 refl, (tt, (tt, (tt, (tt, (tt, (tt, (tt, (tt, (tt, (tt, tt)))))))))))
 
 -- Of every image of bytes, and after every list.
 two-of-images : TwoFigures
