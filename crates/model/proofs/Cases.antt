@@ -6,19 +6,13 @@ use Rattle.model.specs.Lists.{concat}
 use Rattle.model.specs.Calls.{opening, perform}
 use Rattle.model.specs.Runs.{Lent, Run, started, outcome, afterCall}
 use Rattle.model.specs.Table.{Row, opened, onward, held, Hold, AllHold}
-use Rattle.model.specs.Cases.{block, order, X, Y, accepts, late, declines, quotes, advances, firstTwo, lateArrival, lateLive, ranksReversed, startsAtTwo, oneStation, eightStations, paperCases, byteBlock, bytesInOrder, equalRanks, ranksOfTheStation, noPreemption, quotesOnly, outStillCounts, noStartSkipped, defaultInUse, smallestOfMany, bothLate, oneTick, sizesAndStations, orderBlocks, lastDueTick, lastClock, lastTicketGiven, recordBytes, thirtyTwoLive, allStationsAtOnce, unmarks, spoils, bears, soundImages, tickCases, offerCases, imageCases, furtherCases}
-
--- A case is computed only once the one before it holds: a wrong definition is refused at the first row that it breaks.
-pub after : {A B : Type 0} → A → B → B
-after a b = b
-
-first-two-hold : Hold firstTwo
-unfolding Hold X Y accepts advances firstTwo
-first-two-hold = (held 1, (held 2, (held 3, (held 4, (held 5, (held 6, (held 7, (held 8, (held 9, (held 10, (held 11, (held 12, (held 13, (held 14, (held 15, (held 16, (held 17, (held 18, (held 19, (held 20, (held 21, (held 22, (held 23, (held 24, (held 25, (held 26, (held 27, (held 28, (held 29, (held 30, (held 31, (held 32, (held 33, (held 34, tt))))))))))))))))))))))))))))))))))
+use Rattle.model.proofs.FirstCase.{after, first-two-hold}
+use Rattle.model.proofs.FormatCases.{format-numbers-hold}
+use Rattle.model.specs.Cases.{block, order, X, Y, accepts, late, declines, quotes, advances, lateArrival, lateLive, ranksReversed, startsAtTwo, oneStation, eightStations, paperCases, byteBlock, bytesInOrder, equalRanks, ranksOfTheStation, noPreemption, quotesOnly, outStillCounts, noStartSkipped, defaultInUse, smallestOfMany, bothLate, oneTick, sizesAndStations, orderBlocks, lastDueTick, lastClock, lastTicketGiven, recordBytes, thirtyTwoLive, allStationsAtOnce, unmarks, spoils, bears, soundImages, tickCases, offerCases, imageCases, furtherCases}
 
 late-arrival-hold : Hold lateArrival
 unfolding Hold X Y accepts late lateArrival
-late-arrival-hold = after first-two-hold (held 1, (held 2, (held 3, (held 4, tt))))
+late-arrival-hold = after format-numbers-hold (held 1, (held 2, (held 3, (held 4, tt))))
 
 late-live-hold : Hold lateLive
 unfolding Hold X Y accepts late lateLive

@@ -1,2 +1,3 @@
-pub mod Cases
+pub mod FirstCase
 pub mod FormatCases
+pub mod Cases
