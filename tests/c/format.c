@@ -332,43 +332,23 @@ static void ends_of_ranges(void)
 
 static void lengths(void)
 {
-    static const size_t reply_lengths[] = {0, 1, REPLY_SIZE - 1, REPLY_SIZE + 1, SHEET_SIZE, IMAGE_SIZE};
-    static const size_t image_lengths[] = {0, 1, SHEET_SIZE, IMAGE_SIZE - 1, IMAGE_SIZE + 1, OTHER_IMAGE_SIZE};
-    static const size_t sheet_lengths[] = {0, 1, BLOCK_SIZE, SHEET_SIZE - 1, SHEET_SIZE + 1, 2 * SHEET_SIZE};
+    static const size_t reply_lengths[WRONG_LENGTHS] = {0, 1, REPLY_SIZE - 1, REPLY_SIZE + 1, SHEET_SIZE, IMAGE_SIZE};
+    static const size_t image_lengths[WRONG_LENGTHS] = {0, 1, SHEET_SIZE, IMAGE_SIZE - 1, IMAGE_SIZE + 1, OTHER_IMAGE_SIZE};
+    static const size_t sheet_lengths[WRONG_LENGTHS] = {0, 1, BLOCK_SIZE, SHEET_SIZE - 1, SHEET_SIZE + 1, 2 * SHEET_SIZE};
     fresh_image(2);
     x_by_format(20, 0);
-    for (size_t i = 0; i < 6; i++) {
-        reply_length = reply_lengths[i];
-        declined("length of the reply", 1, 0);
-        reply_length = REPLY_SIZE;
-        image_length = image_lengths[i];
-        declined("length of the image", 2, 0);
-        image_length = IMAGE_SIZE;
-        sheet_length = sheet_lengths[i];
-        declined("length of the sheet", 5, 0);
-        sheet_length = SHEET_SIZE;
-    }
+    declined_by_lengths(reply_lengths, image_lengths, &sheet_length, sheet_lengths, "length of the sheet");
 }
 
 /* ---- images ---- */
 
-static void unsound(const char *name, int place, uint32_t number)
-{
-    both_calls(name, place, number, 0, 0, 0);
-}
-
 static void images(void)
 {
-    /* Two waiting orders: 1 + 200 + 200 and 100 for station 1 are 501. The live orders have 301 + 150 of 50,000. */
     two_waiting();
     order(DISPATCHER_FORMAT_A2, 60000, 1, ROW(1, 1));
     station(1, 0, 594);
     station(2, 0, 65535);
-    begin_after(3, 7);
-    record(after, 0, 3, 500, 50500, 301, 2, RANKS(0), ROW(100, 200), ROW(150, 250));
-    record(after, 1, 5, 500, 50500, 301, 2, RANKS(0), ROW(100, 200), ROW(150, 250));
-    record(after, 2, 6, 1000, 61000, 401, 1, RANKS(1, 1), ROW(1, 1), ROW(100, 200));
-    accepted("two waiting orders", 6, 1501, 49549);
+    accepted_beside_two_waiting();
     damaged_images(unsound);
 }
 

@@ -51,4 +51,39 @@ static void begin_after(uint8_t live, uint32_t next)
     counts(after, live, next);
 }
 
+/* Each length wrong by itself: of the reply, of the image, and of what gives the order, which `name` tells. */
+enum { WRONG_LENGTHS = 6 };
+static void declined_by_lengths(const size_t *reply_lengths, const size_t *image_lengths, size_t *given_length, const size_t *given_lengths, const char *name)
+{
+    size_t whole = *given_length;
+    for (size_t i = 0; i < WRONG_LENGTHS; i++) {
+        reply_length = reply_lengths[i];
+        declined("length of the reply", 1, 0);
+        reply_length = REPLY_SIZE;
+        image_length = image_lengths[i];
+        declined("length of the image", 2, 0);
+        image_length = IMAGE_SIZE;
+        *given_length = given_lengths[i];
+        declined(name, 5, 0);
+        *given_length = whole;
+    }
+}
+
+/* An order of costs 1 and 1, rank 1 and due-in 60,000 beside the two waiting ones of image.h: 1 + 200 + 200 and 100 for station 1 are 501. The live orders have
+ * 301 + 150 of 50,000. */
+static void accepted_beside_two_waiting(void)
+{
+    begin_after(3, 7);
+    record(after, 0, 3, 500, 50500, 301, 2, RANKS(0), ROW(100, 200), ROW(150, 250));
+    record(after, 1, 5, 500, 50500, 301, 2, RANKS(0), ROW(100, 200), ROW(150, 250));
+    record(after, 2, 6, 1000, 61000, 401, 1, RANKS(1, 1), ROW(1, 1), ROW(100, 200));
+    accepted("two waiting orders", 6, 1501, 49549);
+}
+
+/* On an image that is not sound. */
+static void unsound(const char *name, int place, uint32_t number)
+{
+    both_calls(name, place, number, 0, 0, 0);
+}
+
 #endif
