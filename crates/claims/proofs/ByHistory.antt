@@ -2,13 +2,13 @@
 -- entries of the other. So what offers do with the state is said of the history's interference sets.
 use mathlib.Core.Path.{_≡_, refl, sym, ap, subst, _∙_}
 use mathlib.Core.Logic.{_⊎_, inl, inr, _≢_}
-use mathlib.Core.Bool.{Bool, true, false, not, _||_, true≢false}
+use mathlib.Core.Bool.{true}
 use mathlib.Core.List.{List, [], _∷_, List·Memᴰ·head, List·Memᴰ·tail, List·Memᴰ·cases-cons, List·Memᴰ·append-cases, List·Memᴰ·eq-of-singleton, Memᴰ·of-map, Memᴰ·map, Memᴰ·append-left, Memᴰ·append-right}
 use mathlib.Core.Option.{none}
 use Prim.Native.Nat.{ℕ, _+_, _≤_}
 use native.Mathlib.Omega.{arith}
 use lib.ListN.{length, length-map}
-use lib.Dec.{ltb, eqb}
+use lib.Dec.{ltb}
 use borrow.Author.Tests.{eq-eqb, ne-eqb, le-leb}
 use Rattle.model.specs.declared.Block.{Block}
 use Rattle.model.specs.declared.Order.{Order}
@@ -19,7 +19,7 @@ use Rattle.model.specs.State.{State}
 use Rattle.model.specs.DelayBound.{boundTick}
 use Rattle.model.specs.Layout.{imageSize, blockSize, replyTickAt, replyMarginAt}
 use Rattle.model.specs.Image.{decode}
-use Rattle.model.specs.Questions.{Question, _else_, firstNo, Answer, replyBytes}
+use Rattle.model.specs.Questions.{_else_, Answer, replyBytes}
 use Rattle.model.specs.Admission.{blockOf, dueOf, arrival, joinedBy, joinedLive, smallestMargin, blockLengthQuestion, blockQuestions, stateQuestions, orderQuestions, offerAnswer, quoteAnswer}
 use Rattle.model.specs.Formats.{FormatOrder, formatQuestions, formatOrderQuestions}
 use Rattle.model.specs.Calls.{Result, result, replyQuestion, lengthQuestion, openNumber, openCall, offerNumber, offerCall, quoteCall, formatNumber, offerFormatCall, quoteFormatCall, advanceNumber, advanceCall, Call, opening, quoting, offering, quotingFormat, offeringFormat, advancing, perform}
@@ -30,7 +30,7 @@ use Rattle.schedule.specs.Valid.{_∈_}
 use Rattle.schedule.specs.Accept.{acceptNext}
 use Rattle.schedule.proofs.Accept.{Origin, old, new, origin, old-in, new-in}
 use Rattle.delay.proofs.Book.{record-new, state-accept}
-use Rattle.lists.proofs.Tests.{and-both}
+use Rattle.lists.proofs.Questions.{spares, never}
 use Rattle.call_laws.specs.Considered as asked
 use Rattle.image_laws.specs.Iff.{_⇔_}
 use Rattle.call_laws.specs.OfferExact.{InTime}
@@ -49,16 +49,6 @@ use Rattle.claims.proofs.Demand3.{due-last, ahead}
 use Rattle.claims.proofs.ByFormat.{judged-by-format}
 
 -- ---- numbers that are never given
--- A question that passes, or whose number is another.
-unfoldable spares : ℕ → Question → Bool
-spares k (b else j) = not (eqb j k) || b
-
-never : (k : ℕ) → 1 ≤ k → (l : List Question) → all (spares k) l ≡ true → firstNo l ≢ k
-unfolding all firstNo spares
-never k low [] e = λ z. omega (arith, z)
-never k low ((true else j) ∷ l) e = never k low l (and-both (not (eqb j k) || true) (all (spares k) l) e .1)
-never k low ((false else j) ∷ l) e = λ z. true≢false (sym (rw (eq-eqb j k z) at (and-both (not (eqb j k) || false) (all (spares k) l) e .0)))
-
 not-one : {k : ℕ} → Decided k → k ≢ 1
 not-one (inl e) z = omega (arith, e, z)
 not-one (inr (inl e)) z = omega (arith, e, z)

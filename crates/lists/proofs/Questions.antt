@@ -1,10 +1,11 @@
 -- Laws of the first "no" among questions: it decides whatever is asked after it, and questions that all pass leave it to those after them.
 use mathlib.Core.Path.{_≡_, refl, sym}
-use mathlib.Core.Bool.{Bool, true, false, not, true≢false}
+use mathlib.Core.Bool.{Bool, true, false, not, _||_, true≢false}
 use mathlib.Core.List.{List, [], _∷_, _++_}
-use Prim.Native.Nat.{ℕ}
+use Prim.Native.Nat.{ℕ, _≤_}
+use native.Mathlib.Omega.{arith}
 use lib.Dec.{eqb}
-use borrow.Author.Tests.{eqb-false, not-true}
+use borrow.Author.Tests.{eq-eqb, eqb-false, not-true}
 use Rattle.model.specs.Lists.{all}
 use Rattle.model.specs.Questions.{Question, _else_, firstNo}
 use Rattle.lists.proofs.Tests.{and-both}
@@ -44,13 +45,15 @@ same-after [] m n e = e
 same-after ((true else j) ∷ l) m n e = same-after l m n e
 same-after ((false else j) ∷ l) m n e = refl
 
--- A number that no question gives does not come out.
-pub never : (k : ℕ) (l : List Question) → all (gives-other k) l ≡ true → firstNo l ≡ k → k ≡ 0
-unfolding all firstNo gives-other
-never k [] h e = sym e
-never k ((true else j) ∷ l) h e = never k l (and-both (not (eqb j k)) (all (gives-other k) l) h .1) e
-never k ((false else j) ∷ l) h e =
-    absurd (eqb-false j k (not-true (eqb j k) (and-both (not (eqb j k)) (all (gives-other k) l) h .0)) e)
+-- A question that passes, or whose number is another. A number that all questions spare does not come out.
+unfoldable pub spares : ℕ → Question → Bool
+spares k (b else j) = not (eqb j k) || b
+
+pub never : (k : ℕ) → 1 ≤ k → (l : List Question) → all (spares k) l ≡ true → firstNo l ≡ k → ⊥
+unfolding all firstNo spares
+never k low [] e = λ z. omega (arith, z)
+never k low ((true else j) ∷ l) e = never k low l (and-both (not (eqb j k) || true) (all (spares k) l) e .1)
+never k low ((false else j) ∷ l) e = λ z. true≢false (sym (rw (eq-eqb j k z) at (and-both (not (eqb j k) || false) (all (spares k) l) e .0)))
 
 -- Of three questions.
 pub three-pass : (a b c : Bool) (i j k : ℕ) → all answer ((a else i) ∷ (b else j) ∷ (c else k) ∷ []) ≡ true → (a ≡ true) × (b ≡ true) × (c ≡ true)

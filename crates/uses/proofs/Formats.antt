@@ -54,12 +54,12 @@ unfolding readRow opened oneCalls one X Y started afterCall outcome afterAll
 at-one f = claims .format-as-block (one .image) f someReply
 
 -- A5 with due-in 7 and rank 5 is Y: offered and quoted, the calls are those on Y's 28 bytes.
-abbrev yellow : ℕ → FormatOrder
-yellow dueIn = byFormat 5 dueIn 5 twoStations
+abbrev asY : ℕ → FormatOrder
+asY dueIn = byFormat 5 dueIn 5 twoStations
 
-one-as-block : (offerFormatCall (one .image) (yellow 7) someReply ≡ offerCall (one .image) (Y 7 5) someReply) × (quoteFormatCall (one .image) (yellow 7) someReply ≡ quoteCall (one .image) (Y 7 5) someReply)
+one-as-block : (offerFormatCall (one .image) (asY 7) someReply ≡ offerCall (one .image) (Y 7 5) someReply) × (quoteFormatCall (one .image) (asY 7) someReply ≡ quoteCall (one .image) (Y 7 5) someReply)
 unfolding readRow opened oneCalls one X Y byFormat twoStations started afterCall outcome afterAll blockBytes
-one-as-block = let a = at-one (yellow 7) in let w = a .considered (inl refl) in (a .offers-as-block w, a .quotes-as-block w)
+one-as-block = let a = at-one (asY 7) in let w = a .considered (inl refl) in (a .offers-as-block w, a .quotes-as-block w)
 
 -- In figures: number 0, tick 8, and the next ticket 3 in the image; of the quote number 0, tick 8, and the next ticket 2.
 one-offer-figures : Figure 0 × Figure 8 × Figure 3
@@ -73,9 +73,9 @@ one-quote-figures =
     (ap (λ (r : Result). r .number) (one-as-block .1), ap (λ (r : Result). word (r .reply) replyTickAt) (one-as-block .1), ap (λ (r : Result). word (r .image) nextAt) (one-as-block .1))
 
 -- What can be written as a block is its call also where that is declined: a cost of 6,001, and a due-in of 60,001.
-dear : Writable 2 (byFormat 3 60001 0 (sheetOf (5999 ∷ 1 ∷ []) (250 ∷ 250 ∷ [])))
+above-range : Writable 2 (byFormat 3 60001 0 (sheetOf (5999 ∷ 1 ∷ []) (250 ∷ 250 ∷ [])))
 unfolding readRow byFormat sheetOf
-dear =
+above-range =
     record {
       readable =
           record {
@@ -87,9 +87,9 @@ dear =
       due-in-fits = leb-true _ _ (refl {a = true});
     }
 
-one-dear : Figure 6
+one-above-range : Figure 6
 unfolding readRow opened oneCalls one X Y byFormat sheetOf started afterCall outcome afterAll blockBytes
-one-dear = ap (λ (r : Result). r .number) (at-one (byFormat 3 60001 0 (sheetOf (5999 ∷ 1 ∷ []) (250 ∷ 250 ∷ []))) .offers-as-block dear)
+one-above-range = ap (λ (r : Result). r .number) (at-one (byFormat 3 60001 0 (sheetOf (5999 ∷ 1 ∷ []) (250 ∷ 250 ∷ []))) .offers-as-block above-range)
 
 -- 0, 11 and 12: everything before passes, the costs and the due-in fit. B1 would delay X.
 abbrev WritableAs : ℕ → ℕ → ℕ → ℕ → Type 0
@@ -98,8 +98,8 @@ WritableAs format first last dueIn = (Figure 32 × (1 ≤ format) × (format ≤
 one-considered : WritableAs 5 1 2 7 × WritableAs 5 1 2 6 × WritableAs 6 4 5 100
 unfolding readRow opened oneCalls one X Y byFormat twoStations started afterCall outcome afterAll
 one-considered = (
-  figures 2 (yellow 7) (omega arith) (at-one (yellow 7) .considered (inl refl)),
-  figures 2 (yellow 6) (omega arith) (at-one (yellow 6) .considered (inr (inl refl))),
+  figures 2 (asY 7) (omega arith) (at-one (asY 7) .considered (inl refl)),
+  figures 2 (asY 6) (omega arith) (at-one (asY 6) .considered (inr (inl refl))),
   figures 2 (byFormat 6 100 0 twoStations) (omega arith) (at-one (byFormat 6 100 0 twoStations) .considered (inr (inr refl))),
 )
 
@@ -107,7 +107,7 @@ one-considered = (
 one-unheard : Figure 1 × Figure 2
 unfolding readRow opened oneCalls one X Y byFormat twoStations started afterCall outcome afterAll
 one-unheard =
-    (claims .format-as-block (one .image) (yellow 7) (lent 15) .one-to-four (eqb-false 1 0 refl), claims .format-as-block (take 2127 (one .image)) (yellow 7) someReply .one-to-four (eqb-false 2 0 refl))
+    (claims .format-as-block (one .image) (asY 7) (lent 15) .one-to-four (eqb-false 1 0 refl), claims .format-as-block (take 2127 (one .image)) (asY 7) someReply .one-to-four (eqb-false 2 0 refl))
 
 -- What is usable, in figures.
 abbrev Used : Type 0
@@ -175,8 +175,8 @@ one-wide-at e =
     of-two-stations (λ k. 6000 < formatCost wide k → k ≡ 2) (λ z. absurd (let w : ⊥ = omega (arith, z) in w)) (λ z. refl) (t .2) (t .3) (t .4) (t .5)
 
 -- A quote by format gives what the offer by format would, with ticket 0.
-format-quoted : QuotedAs (one .image) (quoteFormatCall (one .image) (yellow 7) someReply) (offerFormatCall (one .image) (yellow 7) someReply)
-format-quoted = claims .format-quote-gives-offer (one .image) (yellow 7) someReply
+format-quoted : QuotedAs (one .image) (quoteFormatCall (one .image) (asY 7) someReply) (offerFormatCall (one .image) (asY 7) someReply)
+format-quoted = claims .format-quote-gives-offer (one .image) (asY 7) someReply
 
 format-quote-gives : Figure 0 × Figure 1 × Bytes (replicate 8 0 ++ (8 ∷ replicate 7 0))
 unfolding readRow opened oneCalls one X Y byFormat twoStations started afterCall outcome afterAll
@@ -185,7 +185,7 @@ format-quote-gives =
 
 format-quote-unheard : Bytes (replicate 15 238)
 unfolding readRow opened oneCalls one X Y byFormat twoStations started afterCall outcome afterAll
-format-quote-unheard = claims .format-quote-gives-offer (one .image) (yellow 7) (lent 15) .unheard refl
+format-quote-unheard = claims .format-quote-gives-offer (one .image) (asY 7) (lent 15) .unheard refl
 
 -- What declines leave: 19 of an offer, and 12 of a quote, all but the margin, which is judged below.
 format-offer-declined : Figure 1 × Figure 16 × Bytes (19 ∷ replicate 11 0) × Bytes (19 ∷ replicate 15 0)
@@ -201,9 +201,9 @@ format-quote-declined =
     (ap (λ (image : List ℕ). word image clockAt) (d .image-left), d .reply-whole (eqb-false 12 1 refl), d .number-given (eqb-false 12 1 refl))
 
 -- B1 by its block: costs 4 and 5, and so 12.
-blue-block : Figure 12 × Figure 12
+b1-block : Figure 12 × Figure 12
 unfolding readRow opened oneCalls one X Y byFormat twoStations started afterCall outcome afterAll blockBytes
-blue-block =
+b1-block =
     let a = at-one (byFormat 6 100 0 twoStations) in
     let w = a .considered (inr (inr refl)) in
     (ap (λ (r : Result). r .number) (a .offers-as-block w), ap (λ (r : Result). r .number) (a .quotes-as-block w))
@@ -251,54 +251,54 @@ long-twenty =
 abbrev OfFormat : FormatOrder → Result → Type 0
 OfFormat f r = Judged (Readable 2 f) (one .history) (formatBlock 2 f) someReply r
 
-abbrev blue : FormatOrder
-blue = byFormat 6 100 0 twoStations
+abbrev formatB1 : FormatOrder
+formatB1 = byFormat 6 100 0 twoStations
 
 readable-two : (format dueIn rank : ℕ) → 1 ≤ format → format ≤ 10 → Readable 2 (byFormat format dueIn rank twoStations)
 unfolding readRow byFormat twoStations
 readable-two format dueIn rank low high = record { sheet-whole = refl; known = (low, high); moving = of-two-stations _ (leb-true _ _ (refl {a = true})) (leb-true _ _ (refl {a = true})) }
 
-format-taken : (r : Result) → OfFormat (yellow 7) r → r .number ≡ 0 → (Figure 16 × Readable 2 (yellow 7) × (1 ≤ 1) × (1 ≤ 6000) × (1 ≤ 2) × (2 ≤ 6000) × Figure 0 × Figure 0 × (7 ≤ 60000) × (8 ≤ 4000000000) × (1 < 32)) × ((7 ≤ 9) × (8 ≤ 8)) × (word (r .reply) replyTickAt ≡ 8) × (part (r .reply) replyMarginAt 4 ≡ 0 ∷ 0 ∷ 0 ∷ 0 ∷ []) × (0 < 2147483648)
+format-taken : (r : Result) → OfFormat (asY 7) r → r .number ≡ 0 → (Figure 16 × Readable 2 (asY 7) × (1 ≤ 1) × (1 ≤ 6000) × (1 ≤ 2) × (2 ≤ 6000) × Figure 0 × Figure 0 × (7 ≤ 60000) × (8 ≤ 4000000000) × (1 < 32)) × ((7 ≤ 9) × (8 ≤ 8)) × (word (r .reply) replyTickAt ≡ 8) × (part (r .reply) replyMarginAt 4 ≡ 0 ∷ 0 ∷ 0 ∷ 0 ∷ []) × (0 < 2147483648)
 unfolding readRow opened oneCalls one X Y byFormat twoStations started afterCall outcome afterAll
-format-taken r j = taken (Readable 2 (yellow 7)) (one .history) (formatBlock 2 (yellow 7)) refl r j (omega arith)
+format-taken r j = taken (Readable 2 (asY 7)) (one .history) (formatBlock 2 (asY 7)) refl r j (omega arith)
 
-format-taken-back : (r : Result) → OfFormat (yellow 7) r → r .number ≡ 0
+format-taken-back : (r : Result) → OfFormat (asY 7) r → r .number ≡ 0
 unfolding readRow opened oneCalls one X Y byFormat twoStations started afterCall outcome afterAll
-format-taken-back r j = taken-back (Readable 2 (yellow 7)) (one .history) (formatBlock 2 (yellow 7)) refl r j (considered (Readable 2 (yellow 7)) (one .history) (formatBlock 2 (yellow 7)) (readable-two 5 7 5 (omega arith) (omega arith)) (leb-true _ _ (refl {a = true})) (refl {a = true}) (refl {a = true}) (refl {a = true}) (leb-true _ _ (refl {a = true})) (leb-true _ _ (refl {a = true})) (leb-true _ _ (refl {a = true}))) (leb-true _ _ (refl {a = true})) (leb-true _ _ (refl {a = true}))
+format-taken-back r j = taken-back (Readable 2 (asY 7)) (one .history) (formatBlock 2 (asY 7)) refl r j (considered (Readable 2 (asY 7)) (one .history) (formatBlock 2 (asY 7)) (readable-two 5 7 5 (omega arith) (omega arith)) (leb-true _ _ (refl {a = true})) (refl {a = true}) (refl {a = true}) (refl {a = true}) (leb-true _ _ (refl {a = true})) (leb-true _ _ (refl {a = true})) (leb-true _ _ (refl {a = true}))) (leb-true _ _ (refl {a = true})) (leb-true _ _ (refl {a = true}))
 
-format-late : (r : Result) → OfFormat (yellow 6) r → r .number ≡ 11 → (Figure 16 × Readable 2 (yellow 6) × (1 ≤ 1) × (1 ≤ 6000) × (1 ≤ 2) × (2 ≤ 6000) × Figure 0 × Figure 0 × (6 ≤ 60000) × (7 ≤ 4000000000) × (1 < 32)) × (7 < 8) × (part (r .reply) replyMarginAt 4 ≡ 255 ∷ 255 ∷ 255 ∷ 255 ∷ []) × (0 < 2147483648)
+format-late : (r : Result) → OfFormat (asY 6) r → r .number ≡ 11 → (Figure 16 × Readable 2 (asY 6) × (1 ≤ 1) × (1 ≤ 6000) × (1 ≤ 2) × (2 ≤ 6000) × Figure 0 × Figure 0 × (6 ≤ 60000) × (7 ≤ 4000000000) × (1 < 32)) × (7 < 8) × (part (r .reply) replyMarginAt 4 ≡ 255 ∷ 255 ∷ 255 ∷ 255 ∷ []) × (0 < 2147483648)
 unfolding readRow opened oneCalls one X Y byFormat twoStations started afterCall outcome afterAll
-format-late r j = late (Readable 2 (yellow 6)) (one .history) (formatBlock 2 (yellow 6)) refl r j (omega arith)
+format-late r j = late (Readable 2 (asY 6)) (one .history) (formatBlock 2 (asY 6)) refl r j (omega arith)
 
-format-late-back : (r : Result) → OfFormat (yellow 6) r → r .number ≡ 11
+format-late-back : (r : Result) → OfFormat (asY 6) r → r .number ≡ 11
 unfolding readRow opened oneCalls one X Y byFormat twoStations started afterCall outcome afterAll
-format-late-back r j = late-back (Readable 2 (yellow 6)) (one .history) (formatBlock 2 (yellow 6)) refl r j (considered (Readable 2 (yellow 6)) (one .history) (formatBlock 2 (yellow 6)) (readable-two 5 6 5 (omega arith) (omega arith)) (leb-true _ _ (refl {a = true})) (refl {a = true}) (refl {a = true}) (refl {a = true}) (leb-true _ _ (refl {a = true})) (leb-true _ _ (refl {a = true})) (leb-true _ _ (refl {a = true}))) (leb-true _ _ (refl {a = true}))
+format-late-back r j = late-back (Readable 2 (asY 6)) (one .history) (formatBlock 2 (asY 6)) refl r j (considered (Readable 2 (asY 6)) (one .history) (formatBlock 2 (asY 6)) (readable-two 5 6 5 (omega arith) (omega arith)) (leb-true _ _ (refl {a = true})) (refl {a = true}) (refl {a = true}) (refl {a = true}) (leb-true _ _ (refl {a = true})) (leb-true _ _ (refl {a = true})) (leb-true _ _ (refl {a = true}))) (leb-true _ _ (refl {a = true}))
 
 -- B1 has costs 4 and 5: its bound is 13, it is due at 101, and X would have the bound 12.
-format-delaying : (r : Result) → OfFormat blue r → r .number ≡ 12 → (Figure 16 × Readable 2 blue × (1 ≤ 4) × (4 ≤ 6000) × (1 ≤ 5) × (5 ≤ 6000) × Figure 0 × Figure 0 × (100 ≤ 60000) × (101 ≤ 4000000000) × (1 < 32)) × (13 ≤ 101) × (9 < 12) × (part (r .reply) replyMarginAt 4 ≡ 253 ∷ 255 ∷ 255 ∷ 255 ∷ []) × (2 < 2147483648)
+format-delaying : (r : Result) → OfFormat formatB1 r → r .number ≡ 12 → (Figure 16 × Readable 2 formatB1 × (1 ≤ 4) × (4 ≤ 6000) × (1 ≤ 5) × (5 ≤ 6000) × Figure 0 × Figure 0 × (100 ≤ 60000) × (101 ≤ 4000000000) × (1 < 32)) × (13 ≤ 101) × (9 < 12) × (part (r .reply) replyMarginAt 4 ≡ 253 ∷ 255 ∷ 255 ∷ 255 ∷ []) × (2 < 2147483648)
 unfolding readRow opened oneCalls one X Y byFormat twoStations started afterCall outcome afterAll
-format-delaying r j = delaying (Readable 2 blue) (one .history) (formatBlock 2 blue) refl r j (omega arith) (leb-true _ _ (refl {a = true}))
+format-delaying r j = delaying (Readable 2 formatB1) (one .history) (formatBlock 2 formatB1) refl r j (omega arith) (leb-true _ _ (refl {a = true}))
 
-format-delaying-back : (r : Result) → OfFormat blue r → r .number ≡ 12
+format-delaying-back : (r : Result) → OfFormat formatB1 r → r .number ≡ 12
 unfolding readRow opened oneCalls one X Y byFormat twoStations started afterCall outcome afterAll
-format-delaying-back r j = delaying-back (Readable 2 blue) (one .history) (formatBlock 2 blue) refl r j (considered (Readable 2 blue) (one .history) (formatBlock 2 blue) (readable-two 6 100 0 (omega arith) (omega arith)) (leb-true _ _ (refl {a = true})) (refl {a = true}) (refl {a = true}) (refl {a = true}) (leb-true _ _ (refl {a = true})) (leb-true _ _ (refl {a = true})) (leb-true _ _ (refl {a = true}))) (leb-true _ _ (refl {a = true})) (leb-true _ _ (refl {a = true}))
+format-delaying-back r j = delaying-back (Readable 2 formatB1) (one .history) (formatBlock 2 formatB1) refl r j (considered (Readable 2 formatB1) (one .history) (formatBlock 2 formatB1) (readable-two 6 100 0 (omega arith) (omega arith)) (leb-true _ _ (refl {a = true})) (refl {a = true}) (refl {a = true}) (refl {a = true}) (leb-true _ _ (refl {a = true})) (leb-true _ _ (refl {a = true})) (leb-true _ _ (refl {a = true}))) (leb-true _ _ (refl {a = true})) (leb-true _ _ (refl {a = true}))
 
 format-quotes : Figure 0 × Figure 11 × Figure 12
 unfolding readRow opened oneCalls one X Y byFormat twoStations started afterCall outcome afterAll
 format-quotes =
     let of = one-in-step .format-quotes in
-    (format-taken-back _ (of (yellow 7) someReply), format-late-back _ (of (yellow 6) someReply), format-delaying-back _ (of blue someReply))
+    (format-taken-back _ (of (asY 7) someReply), format-late-back _ (of (asY 6) someReply), format-delaying-back _ (of formatB1 someReply))
 
 format-offers : Figure 0 × Figure 11 × Figure 12
 unfolding readRow opened oneCalls one X Y byFormat twoStations started afterCall outcome afterAll
 format-offers =
     let of = one-in-step .format-offers in
-    (format-taken-back _ (of (yellow 7) someReply), format-late-back _ (of (yellow 6) someReply), format-delaying-back _ (of blue someReply))
+    (format-taken-back _ (of (asY 7) someReply), format-late-back _ (of (asY 6) someReply), format-delaying-back _ (of formatB1 someReply))
 
 -- What the next call by format never returns: an offer that is done, a quote that is late.
 format-never : (_≢_ {A = ℕ} 0 2) × (_≢_ {A = ℕ} 11 9)
 unfolding readRow opened oneCalls one X Y byFormat twoStations started afterCall outcome afterAll
-format-never = (one-in-step .never-2 (whole (offeringFormat (yellow 7))), one-in-step .never-9 (whole (quotingFormat (yellow 6))))
+format-never = (one-in-step .never-2 (whole (offeringFormat (asY 7))), one-in-step .never-9 (whole (quotingFormat (asY 6))))
 
 -- At 8 stations: cost 1 everywhere with due-in 10 is taken, and its tick is 10.
 long-format : Figure 0 × Figure 10 × (1 ≤ 250)

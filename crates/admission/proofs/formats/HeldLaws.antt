@@ -14,7 +14,7 @@ use Rattle.schedule.proofs.Laws.{test}
 use Rattle.image_laws.proofs.Clauses.{costs-say}
 use Rattle.call_laws.specs.FormatExact.{Readable}
 use Rattle.call_laws.proofs.formats.Block.{row-eight, row-in, few-moving, format-cost}
-use Rattle.call_laws.proofs.formats.Exact.{costs-are, too-dear}
+use Rattle.call_laws.proofs.formats.Exact.{costs-are, one-above}
 use Rattle.admission.specs.Formats.{heldCost, heldBlock}
 use Rattle.admission.proofs.formats.FormatLaws.{held-in, held-over}
 
@@ -32,12 +32,12 @@ module _ (n : ℕ) (f : FormatOrder) (r : Readable n f) where
   held-same e =
       rw (row-same n (λ k. heldCost (formatCost f k)) (formatCost f) (λ k low high. held-in (formatCost f k) (omega (arith, costs-are n f r .tells e k low high .1, format-cost n f k low high (omega (arith, few))))))
 
-  held-dear : costsInRange n (formatBlock n f .costs) ≡ false → costsInRange n (heldBlock n f .costs) ≡ false
+  held-above : costsInRange n (formatBlock n f .costs) ≡ false → costsInRange n (heldBlock n f .costs) ≡ false
   unfolding heldBlock
-  held-dear e =
+  held-above e =
       elim (test (costsInRange n (heldBlock n f .costs))) [
         | inl t ↦
-            let w = too-dear n f r .only e in
+            let w = one-above n f r .only e in
             let entry : ℕ → ℕ = λ k. heldCost (formatCost f k) in
             let c = costs-say n (heldBlock n f .costs) (rw (row-eight n entry) few) .tells t (w .0) (w .1) (w .2) .1 in
             absurd (above (formatCost f (w .0)) (w .3) (rw (row-in n entry (w .0) (w .1) (w .2) (omega (arith, w .2, few))) at c))
@@ -45,11 +45,11 @@ module _ (n : ℕ) (f : FormatOrder) (r : Readable n f) where
       ]
     where
       above : (c : ℕ) → maxCost < c → heldCost c ≤ maxCost → ⊥
-      above c dear low =
+      above c high low =
           elim (test (ltb c 65536)) [
             | inl t ↦ omega (arith, rw (held-in c (ltb-true c 65536 t)) at low)
             | inr t ↦ omega (arith, rw (held-over c (ltb-false c 65536 t)) at low)
           ]
 
-  pub held-or-dear : (heldBlock n f ≡ formatBlock n f) ⊎ ((costsInRange n (heldBlock n f .costs) ≡ false) × (costsInRange n (formatBlock n f .costs) ≡ false))
-  held-or-dear = elim (test (costsInRange n (formatBlock n f .costs))) [ inl t ↦ inl (held-same t) | inr t ↦ inr (held-dear t, t) ]
+  pub held-or-above : (heldBlock n f ≡ formatBlock n f) ⊎ ((costsInRange n (heldBlock n f .costs) ≡ false) × (costsInRange n (formatBlock n f .costs) ≡ false))
+  held-or-above = elim (test (costsInRange n (formatBlock n f .costs))) [ inl t ↦ inl (held-same t) | inr t ↦ inr (held-above t, t) ]

@@ -20,7 +20,7 @@ use Rattle.model.specs.Questions.{Question, _else_, firstNo}
 use Rattle.model.specs.Admission.{blockBytes, blockLengthQuestion, blockQuestions, stateQuestions, orderQuestions}
 use Rattle.model.specs.Formats.{FormatOrder, speeds, longSides, longSide, formatCost, formatBlock, formatQuestions, formatOrderQuestions}
 use Rattle.model.specs.Calls.{replyQuestion, lengthQuestion, imageQuestions, offerNumber, offerCall, quoteCall, formatNumber, offerFormatCall, quoteFormatCall}
-use Rattle.lists.proofs.Questions.{answer, gives-other, decides, after, same-after, never}
+use Rattle.lists.proofs.Questions.{answer, gives-other, decides, after, same-after, spares, never}
 use Rattle.lists.proofs.Rounding.{up-some}
 use Rattle.schedule.proofs.Laws.{test}
 use Rattle.image_laws.specs.Iff.{_⇔_}
@@ -33,9 +33,9 @@ use Rattle.call_laws.proofs.offers.Questions.{Decided, few-stations}
 use Rattle.call_laws.proofs.formats.Block.{format-costs-eight, format-cost, format-beyond, few-moving, format-read, format-length}
 
 -- A question's "no" gives its number where no question after it does.
-own-no : (b : Bool) (k : ℕ) (rest : List Question) → 1 ≤ k → all (gives-other k) rest ≡ true → (firstNo ((b else k) ∷ rest) ≡ k) ⇔ (b ≡ false)
+own-no : (b : Bool) (k : ℕ) (rest : List Question) → 1 ≤ k → all (spares k) rest ≡ true → (firstNo ((b else k) ∷ rest) ≡ k) ⇔ (b ≡ false)
 unfolding firstNo
-own-no true k rest some others = record { only = λ e. absurd (let z = never k rest others e in let w : ⊥ = omega arith in w); if = λ e. absurd (true≢false e) }
+own-no true k rest some others = record { only = λ e. absurd (never k some rest others e); if = λ e. absurd (true≢false e) }
 own-no false k rest some others = record { only = λ e. refl; if = λ e. refl }
 
 -- Of the first n entries one fails where not all pass.
@@ -108,8 +108,8 @@ module _ (n : ℕ) (f : FormatOrder) where
     pub costs-are : Says (costsInRange n (formatBlock n f .costs)) ((k : ℕ) → 1 ≤ k → k ≤ n → (1 ≤ at 0 (formatBlock n f .costs) k) × (at 0 (formatBlock n f .costs) k ≤ maxCost))
     costs-are = costs-say n (formatBlock n f .costs) (rw (format-costs-eight n f) few)
 
-    pub too-dear : (costsInRange n (formatBlock n f .costs) ≡ false) ⇔ ((k : ℕ) × (1 ≤ k) × (k ≤ n) × (maxCost < formatCost f k))
-    too-dear = record { only = only; if = back }
+    pub one-above : (costsInRange n (formatBlock n f .costs) ≡ false) ⇔ ((k : ℕ) × (1 ≤ k) × (k ≤ n) × (maxCost < formatCost f k))
+    one-above = record { only = only; if = back }
       where
         above : (c : ℕ) → 1 ≤ c → within 1 maxCost c ≡ false → maxCost < c
         above c some e = leb-false c maxCost (rw (le-leb 1 c some) at e)
@@ -163,7 +163,7 @@ module _ (image : List ℕ) (f : FormatOrder) (reply : List ℕ) where
   one-to-four some = sym (decides four (formatOrderQuestions (decode image) f) (firstNo four) refl some)
 
   five : (formatNumber image f reply ≡ 5) ⇔ (Usable image reply × (length (f .sheet) ≢ sheetSize))
-  unfolding formatNumber formatOrderQuestions four imageQuestions replyQuestion lengthQuestion formatQuestions blockQuestions stateQuestions all gives-other
+  unfolding formatNumber formatOrderQuestions four imageQuestions replyQuestion lengthQuestion formatQuestions blockQuestions stateQuestions all gives-other spares
   five =
       let asked = first-no 5 four (formatOrderQuestions (decode image) f) refl in
       let own = own-no (eqb (length (f .sheet)) sheetSize) 5 (drop 1 (formatOrderQuestions (decode image) f)) (omega arith) refl in
@@ -173,7 +173,7 @@ module _ (image : List ℕ) (f : FormatOrder) (reply : List ℕ) where
       }
 
   nineteen : (formatNumber image f reply ≡ 19) ⇔ (Usable image reply × (length (f .sheet) ≡ sheetSize) × Unknown f)
-  unfolding formatNumber formatOrderQuestions four imageQuestions replyQuestion lengthQuestion formatQuestions blockQuestions stateQuestions all gives-other
+  unfolding formatNumber formatOrderQuestions four imageQuestions replyQuestion lengthQuestion formatQuestions blockQuestions stateQuestions all gives-other spares
   nineteen =
       let first = take 1 (formatQuestions n (f .format) (f .sheet)) in
       let asked = first-no 19 (four ++ first) (drop 1 (formatOrderQuestions (decode image) f)) refl in
@@ -196,7 +196,7 @@ module _ (image : List ℕ) (f : FormatOrder) (reply : List ℕ) where
       outside x (inr h) = elim (test (leb 1 x)) [ inl t ↦ rw (t, lt-leb x maxFormat h) | inr t ↦ rw t ]
 
   twenty : (formatNumber image f reply ≡ 20) ⇔ (Usable image reply × (length (f .sheet) ≡ sheetSize) × Known f × (k : ℕ) × (1 ≤ k) × (k ≤ n) × (at 0 (speeds (f .sheet)) k ≡ 0))
-  unfolding formatNumber formatOrderQuestions four imageQuestions replyQuestion lengthQuestion formatQuestions blockQuestions stateQuestions all gives-other
+  unfolding formatNumber formatOrderQuestions four imageQuestions replyQuestion lengthQuestion formatQuestions blockQuestions stateQuestions all gives-other spares
   twenty =
       let first = take 2 (formatQuestions n (f .format) (f .sheet)) in
       let asked = first-no 20 (four ++ first) (drop 2 (formatOrderQuestions (decode image) f)) refl in
@@ -219,7 +219,7 @@ module _ (image : List ℕ) (f : FormatOrder) (reply : List ℕ) where
           ]
 
   six : (formatNumber image f reply ≡ 6) ⇔ (Usable image reply × Readable n f × (k : ℕ) × (1 ≤ k) × (k ≤ n) × (maxCost < formatCost f k))
-  unfolding formatNumber formatOrderQuestions four imageQuestions replyQuestion lengthQuestion formatQuestions blockQuestions stateQuestions all gives-other
+  unfolding formatNumber formatOrderQuestions four imageQuestions replyQuestion lengthQuestion formatQuestions blockQuestions stateQuestions all gives-other spares
   six =
       let asked = first-no 6 (four ++ formatQuestions n (f .format) (f .sheet)) (drop 3 (formatOrderQuestions (decode image) f)) refl in
       let own = own-no (costsInRange n (b .costs) && zeroBeyond n (b .costs) && zeroBeyond n (b .ranks)) 6 (drop 4 (formatOrderQuestions (decode image) f)) (omega arith) refl in
@@ -228,14 +228,14 @@ module _ (image : List ℕ) (f : FormatOrder) (reply : List ℕ) where
         only = λ e.
             let t = asked .only e in
             let p = early .tells (t .0) in
-            let w = too-dear n f (p .1) .only (sym (block-question n f) ∙ own .only (t .1)) in
+            let w = one-above n f (p .1) .only (sym (block-question n f) ∙ own .only (t .1)) in
             (p .0, p .1, w .0, w .1, w .2, w .3);
-        if = λ t. asked .if (early .passes (t .0, t .1), own .if (block-question n f ∙ too-dear n f (t .1) .if (t .2, t .3, t .4, t .5)));
+        if = λ t. asked .if (early .passes (t .0, t .1), own .if (block-question n f ∙ one-above n f (t .1) .if (t .2, t .3, t .4, t .5)));
       }
 
   -- With 0, 11 and 12 the questions up to 7 pass.
   considered : Decided (formatNumber image f reply) → Writable n f
-  unfolding formatNumber formatOrderQuestions four imageQuestions replyQuestion lengthQuestion formatQuestions blockQuestions stateQuestions all gives-other
+  unfolding formatNumber formatOrderQuestions four imageQuestions replyQuestion lengthQuestion formatQuestions blockQuestions stateQuestions all gives-other spares
   considered decided =
       let more = formatQuestions n (f .format) (f .sheet) ++ blockQuestions n b in
       let asked = first-no (formatNumber image f reply) (four ++ more) (stateQuestions (decode image) b) (others decided) .only refl in

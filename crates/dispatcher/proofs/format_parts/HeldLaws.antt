@@ -13,7 +13,7 @@ use Rattle.model.specs.Formats.{FormatOrder, formatBlock}
 use Rattle.model.specs.Calls.{result}
 use Rattle.call_laws.specs.FormatExact.{Readable}
 use Rattle.admission.specs.Formats.{heldBlock}
-use Rattle.admission.proofs.formats.HeldLaws.{held-or-dear}
+use Rattle.admission.proofs.formats.HeldLaws.{held-or-above}
 use Rattle.dispatcher.specs.Taken.{blockNumber, quoteTaken, offerTaken}
 
 -- 6.
@@ -31,7 +31,7 @@ module _ (image : List ℕ) (f : FormatOrder) (reply : List ℕ) (r : Readable (
   pub offer-held : offerTaken image held reply ≡ offerTaken image whole reply
   unfolding offerTaken result offerAnswer
   offer-held =
-      elim (held-or-dear (decode image .n) f r) [
+      elim (held-or-above (decode image .n) f r) [
         | inl e ↦ rw e
         | inr t ↦ rw (six image held (t .0), six image whole (t .1))
       ]
@@ -39,7 +39,7 @@ module _ (image : List ℕ) (f : FormatOrder) (reply : List ℕ) (r : Readable (
   pub quote-held : quoteTaken image held reply ≡ quoteTaken image whole reply
   unfolding quoteTaken result quoteAnswer offerAnswer
   quote-held =
-      elim (held-or-dear (decode image .n) f r) [
+      elim (held-or-above (decode image .n) f r) [
         | inl e ↦ rw e
         | inr t ↦ rw (six image held (t .0), six image whole (t .1))
       ]

@@ -15,7 +15,7 @@ use Rattle.model.specs.Admission.{blockQuestions, stateQuestions}
 use Rattle.model.specs.Formats.{FormatOrder, speeds, formatBlock, formatQuestions, formatOrderQuestions}
 use Rattle.model.specs.Calls.{replyQuestion, imageQuestions, formatNumber, offerFormatCall, quoteFormatCall}
 use Rattle.lists.proofs.Tests.{inside}
-use Rattle.lists.proofs.Questions.{gives-other}
+use Rattle.lists.proofs.Questions.{gives-other, spares}
 use Rattle.image_laws.specs.Usable.{Usable}
 use Rattle.call_laws.specs.FormatExact.{Readable}
 use Rattle.call_laws.proofs.offers.Questions.{few-stations}
@@ -74,9 +74,9 @@ module _ (image : List ℕ) (f : FormatOrder) (reply : List ℕ) where
 
   module _ (number : ℕ) (is : number ≡ firstNo (replyQuestion reply ∷ imageQuestions image ++ early)) (some : number ≡ 0 → ⊥) where
     pub offer-declined : Gives (offerFormatCall image f reply) number image (declinedReply number reply)
-    unfolding offerFormatCall formatNumber formatOrderQuestions imageQuestions formatQuestions blockQuestions all gives-other
+    unfolding offerFormatCall formatNumber formatOrderQuestions imageQuestions formatQuestions blockQuestions all spares
     offer-declined = offered-declined image reply early refl refl (formatBlock (decode image .n) f) rest number is some
 
     pub quote-declined : Gives (quoteFormatCall image f reply) number image (declinedReply number reply)
-    unfolding quoteFormatCall formatNumber formatOrderQuestions imageQuestions formatQuestions blockQuestions all gives-other
+    unfolding quoteFormatCall formatNumber formatOrderQuestions imageQuestions formatQuestions blockQuestions all spares
     quote-declined = quoted-declined image reply early refl refl (formatBlock (decode image .n) f) rest number is some

@@ -15,7 +15,7 @@ use Rattle.model.specs.Questions.{Question, firstNo, zeros}
 use Rattle.model.specs.Admission.{blockOf, blockLengthQuestion, blockQuestions, stateQuestions, orderQuestions, offerAnswer, quoteAnswer}
 use Rattle.model.specs.Calls.{replyQuestion, lengthQuestion, imageQuestions, offered, quoted, offerNumber, offerCall, quoteCall}
 use Rattle.lists.proofs.Tests.{and-both, all-append}
-use Rattle.lists.proofs.Questions.{answer, gives-other, decides, passed, after, never}
+use Rattle.lists.proofs.Questions.{answer, gives-other, decides, passed, after, spares, never}
 use Rattle.image_laws.specs.Usable.{Usable}
 use Rattle.image_laws.proofs.Questions.{four-say}
 use Rattle.dispatcher.specs.Gives.{Gives}
@@ -66,17 +66,17 @@ module _ (image reply : List ℕ) (early : List Question) where
     left-to rest = after (four ++ early) rest yes
 
   -- One of them says "no": nothing is written but the number and zeros.
-  module _ (not-11 : all (gives-other 11) early ≡ true) (not-12 : all (gives-other 12) early ≡ true) (b : Block) (rest : List Question) (number : ℕ) (is : number ≡ firstNo (replyQuestion reply ∷ imageQuestions image ++ early)) (some : number ≡ 0 → ⊥) where
+  module _ (not-11 : all (spares 11) early ≡ true) (not-12 : all (spares 12) early ≡ true) (b : Block) (rest : List Question) (number : ℕ) (is : number ≡ firstNo (replyQuestion reply ∷ imageQuestions image ++ early)) (some : number ≡ 0 → ⊥) where
     number-is : number ≡ firstNo (replyQuestion reply ∷ imageQuestions image ++ early ++ rest)
     unfolding four imageQuestions
     number-is = decides (four ++ early) rest number is some
 
-    other-than : (k : ℕ) → 1 ≤ k → all (gives-other k) (four ++ early) ≡ true → number ≡ k → ⊥
+    other-than : (k : ℕ) → 1 ≤ k → all (spares k) (four ++ early) ≡ true → number ≡ k → ⊥
     unfolding four imageQuestions
-    other-than k low others e = let z = never k (four ++ early) others (sym is ∙ e) in omega arith
+    other-than k low others e = never k low (four ++ early) others (sym is ∙ e)
 
     no-values : offerAnswer number (decode image) b ≡ zeros
-    unfolding offerAnswer four all gives-other replyQuestion imageQuestions lengthQuestion
+    unfolding offerAnswer four all spares replyQuestion imageQuestions lengthQuestion
     no-values = rw (ne-eqb number 0 some, ne-eqb number 11 (other-than 11 (omega arith) not-11), ne-eqb number 12 (other-than 12 (omega arith) not-12))
 
     pub offered-declined : Gives (offered (firstNo (replyQuestion reply ∷ imageQuestions image ++ early ++ rest)) image b reply) number image (declinedReply number reply)
@@ -122,9 +122,9 @@ module _ (image block reply : List ℕ) where
 
   module _ (number : ℕ) (is : number ≡ firstNo (replyQuestion reply ∷ imageQuestions image ++ early)) (some : number ≡ 0 → ⊥) where
     pub offer-declined : Gives (offerCall image block reply) number image (declinedReply number reply)
-    unfolding offerCall offerNumber orderQuestions imageQuestions blockLengthQuestion all gives-other
+    unfolding offerCall offerNumber orderQuestions imageQuestions blockLengthQuestion all spares
     offer-declined = offered-declined image reply early refl refl (blockOf block) rest number is some
 
     pub quote-declined : Gives (quoteCall image block reply) number image (declinedReply number reply)
-    unfolding quoteCall offerNumber orderQuestions imageQuestions blockLengthQuestion all gives-other
+    unfolding quoteCall offerNumber orderQuestions imageQuestions blockLengthQuestion all spares
     quote-declined = quoted-declined image reply early refl refl (blockOf block) rest number is some
