@@ -74,7 +74,7 @@ FILES = [
     ("model/specs/Lists.antt", "Words about lists and tests", [
         ("Ranges and zero", ["C~ N stations, 1 to 8", "I~ zero bytes and unused records zero"], ["within", "isZero"]),
         ("The entry of a station, and a part of a list", ["C~ for each station, a cost in ticks (1 to 6,000) and a rank", "I~ Bytes 0 to 2"], ["at", "part"]),
-        ("A quotient rounded up", ["i~ long side divided by speed, rounded up", "S~ (R / period of i, rounded up)"], ["roundedUp"]),
+        ("A quotient rounded up", ["i~ long side divided by speed, rounded up", "ii~ (R + deadline of i - 1) / period of i, rounded up"], ["roundedUp"]),
         ("Added up, the largest, the larger of two", ["D~ the largest station cost of each member, added up", "D~ the largest cost any member has there"],
          ["total", "largest", "larger"]),
         ("Lists one after the other", OWN, ["concat"]),
@@ -358,16 +358,21 @@ FILES = [
         ("The base", ["S: Base of task t"], ["base"]),
     ]),
     ("plan_model/specs/Response.antt", "The response of a task", [
-        ("Releases that count", ["S~ (R / period of i, rounded up)"], ["releases"]),
-        ("The share of another task", ["S~ (R / period of i, rounded up) × largest cost of i"], ["share"]),
+        ("Releases that count", ["ii: The factor for task i"], ["releases"]),
+        ("The share of another task", ["S~ × largest cost of i", "ii~ The factor for task i"], ["share"]),
         ("The other tasks", ["S~ over the other tasks i"], ["others"]),
-        ("What replaces R", ["S~ replace R by base + the sum, over the other tasks i, of (R / period of i, rounded up) × largest cost of i"], ["next"]),
-        ("Where the repetition ends", ["S: The repetition ends"], ["past", "ends"]),
+        ("What replaces R", ["S~ replace R by base + the sum, over the other tasks i, of"], ["next"]),
+        ("Where the repetition ends", ["S: The repetition ends", "ii~ its strict end test remains"], ["past", "ends"]),
         ("The R reached", ["S: Response: begin with", "S: The repetition ends"], ["settled", "responseFrom"]),
         ("The verdict", ["S: On time means"], ["verdictWhere", "verdictOf"]),
     ]),
+    ("plan_model/specs/Overlap.antt", "What is counted", [
+        ("Releases whose stay can overlap", ["ii: The planning test should"], ["overlaps", "apart", "Overlapping"]),
+        ("Every one of them counts", ["ii: The planning test should"], ["Counted", "EveryOverlap"]),
+    ]),
     ("plan_model/specs/Plan.antt", "Plan over task records", [
-        ("Figures in range", ["S~ period 1 to 60,000, deadline 1 to the period, costs 1 to 6,000", "S: Costs beyond N"], ["inRange"]),
+        ("Figures in range", ["S: Plan reads a table", "S~ period 1 to 60,000, deadline 1 to the period, costs 1 to 6,000", "S: Costs beyond N"],
+         ["areCosts", "inRange"]),
         ("The number", ["S: It declines N by 14", "S~ returns its number, 0 when done"], ["planQuestions", "planNumber"]),
         ("The response of one task", ["S: Response: begin with"], ["response"]),
         ("The figures filled in", ["S: Plan fills base"], ["withFigures", "figured", "planned"]),
@@ -383,6 +388,10 @@ FILES = [
         ("What is asked of a task", ["S: Plan reads a table"], ["Asked", "asked"]),
         ("What plan leaves", ["S~ a decline leaves the list alone", "S: Plan fills base"], ["Leaves"]),
         ("Costs that are not read", ["S: Costs beyond N"], ["upTo", "NotRead"]),
+    ]),
+    ("plan_model/specs/Thesis.antt", "The thesis's count", [
+        ("The published figure", ["S~ This is the published figure"], ["thesisShare", "thesisNext", "thesisResponse", "thesisResponses"]),
+        ("On time by both", [FURTHER, "S~ This is the published figure"], ["ByThesis", "OnTimeByThesis"]),
     ]),
     ("text/specs/Ascii.antt", "Words as bytes", [
         ("A text", OWN, ["ascii"]),
@@ -414,9 +423,10 @@ FILES = [
     ]),
     ("plan_model/specs/Cases.antt", "Plan's worked tables", [
         ("An input and what is printed", ["S~ it prints, whole"], ["Printing", "isPrinted"]),
-        ("The paper's two tables", ["S: For `2`", "S: task base response verdict", "S: With deadline 7", "E: P: both plan tables"],
-         ["firstTable", "secondTable", "paperTables"]),
-        ("The example of document 004", ["S~ This is the published figure"], ["chapterSix"]),
+        ("The paper's two tables", ["S: For `2`", "ii: Document 01's first table", "E: P: both plan tables"], ["firstTable", "secondTable", "paperTables"]),
+        ("The example of document 004", FURTHER, ["chapterSix"]),
+        ("Tables that tell right from nearly right", [FURTHER, "ii: The factor for task i"], ["endsEarlier", "mostTicks", "insideTables"]),
+        ("Responses by the thesis's count", ["S~ This is the published figure"], ["ThesisRow", "isThesisRow", "thesisRows"]),
         ("The largest response", FURTHER, ["lateLines", "largestResponse"]),
     ]),
     ("model/specs/Table.antt", "Tables of worked cases", [
@@ -471,7 +481,7 @@ WHOLE = {
                                     "D: Margin is"],
     "model/specs/Soundness.antt": ["I: Sound means"],
     "plan_model/specs/Plan.antt": ["S: Plan reads a table", "S: The standing table is", "S: Plan fills base", "S: It declines N by 14", "S: Costs beyond N"],
-    "plan_model/specs/Response.antt": ["S: Response: begin with", "S: The repetition ends", "S: On time means"],
+    "plan_model/specs/Response.antt": ["S: Response: begin with", "S: The repetition ends", "S: On time means", "ii: The factor for task i"],
     "plan_model/specs/Input.antt": ["S: The plan program reads", "S: Its questions"],
     "model/specs/History.antt": ["R: The book is fed", "R: It holds N", "R: It starts with"],
 }
@@ -479,6 +489,9 @@ WHOLE = {
 # What requests overrule: a passage of document 01 or of an earlier request, and the passage of the request that holds in its place, such as
 #     ("C~ 0 stands for 18,000.", "iii: Due-in 0 is"),
 OVERRULED = [
+    ("S~ R / period of i", "ii~ (R + deadline of i - 1) / period of i"),
+    ("S~ 1 5 7 on-time 2 4 7 on-time", "ii~ Document 01's first table then has responses 9 and 10, the second task late"),
+    ("S: With deadline 7", "ii~ with deadline 7 for task 2 both figures are the same"),
 ]
 
 # Sentences of these sections, and of requests, that no definition of `Claims` renders, and where they are kept; and words that are not rendered of a sentence
@@ -498,6 +511,8 @@ ELSEWHERE = [
     ("W~ a program compares the remaining cases with stored output, and long runs with a second simulator by other hands",
      "the programs crates/cases and crates/soak; tests/README.md says what is compared with what"),
     ("i: Counters know", "why it was asked for"),
+    ("ii: A landing that", "why it was asked for"),
+    ("ii~ Planning figures, demand 2's too, are compared with this rule from now on", "tests/README.md says what is compared with what, and at which level"),
     ("X: The core carries", "a form of the code: crates/image/src/pipeline.rt"),
     ("X: After it, a station's", "a form of the code: crates/tick/src/entries.rt"),
 ]

@@ -1,7 +1,9 @@
 -- All claims, each from where it is proved.
 use Rattle.model.proofs.FormatCases.{long-sides-halve}
 use Rattle.plan_model.proofs.Meaning.{meaning}
-use Rattle.plan_model.proofs.Cases.{chapter-six-holds, largest-response-holds}
+use Rattle.plan_model.proofs.Overlap.{every-overlap}
+use Rattle.plan_model.proofs.Thesis.{on-time-by-thesis}
+use Rattle.plan_model.proofs.Cases.{chapter-six-holds, thesis-rows-hold, largest-response-holds}
 use Rattle.plan_model.proofs.Leaves.{leaves, not-read}
 use Rattle.call_laws.proofs.opens.Exact.{opens-fresh}
 use Rattle.call_laws.proofs.offers.Exact.{exact}
@@ -41,8 +43,11 @@ claims =
       offers-keep-sound = offer-keeps-sound;
       advances-keep-sound = advance-keeps-sound;
       plan-means = meaning;
-      chapter-six = chapter-six-holds;
       largest-response = largest-response-holds;
+      plan-counts = every-overlap;
+      on-time-by-thesis = on-time-by-thesis;
+      chapter-six = chapter-six-holds;
+      thesis-rows = thesis-rows-hold;
       plan-leaves = leaves;
       plan-reads-to-n = not-read;
       worked-cases = worked-cases-hold;

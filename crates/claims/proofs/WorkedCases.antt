@@ -8,8 +8,8 @@ use Rattle.model.specs.Cases.{paperCases}
 use Rattle.model.specs.FormatCases.{formatCases}
 use Rattle.model.proofs.Cases.{paper-cases-hold}
 use Rattle.model.proofs.FormatCases.{format-cases-hold}
-use Rattle.plan_model.specs.Cases.{Printing, isPrinted, paperTables}
-use Rattle.plan_model.proofs.Cases.{paper-tables-hold}
+use Rattle.plan_model.specs.Cases.{Printing, isPrinted, paperTables, insideTables}
+use Rattle.plan_model.proofs.Cases.{paper-tables-hold, inside-tables-hold}
 use Rattle.claims.specs.WorkedCases.{Case, ofCalls, ofPlan, EachHolds, paperTable, WorkedCases}
 
 is-true : (k : ℕ) (b : Bool) → Held k b → b ≡ true
@@ -30,6 +30,8 @@ together (case ∷ a) b p q = (p .0, together a b (p .1) q)
 pub worked-cases-hold : WorkedCases
 unfolding paperTable
 worked-cases-hold =
-    together (map ofCalls paperCases ++ map ofPlan paperTables) (map ofCalls formatCases)
+    together (map ofCalls paperCases ++ map ofPlan paperTables ++ map ofCalls formatCases) (map ofPlan insideTables)
+    (together (map ofCalls paperCases ++ map ofPlan paperTables) (map ofCalls formatCases)
     (together (map ofCalls paperCases) (map ofPlan paperTables) (calls paperCases paper-cases-hold) (plans 1 paperTables paper-tables-hold))
-    (calls formatCases format-cases-hold)
+    (calls formatCases format-cases-hold))
+    (plans 1 insideTables inside-tables-hold)

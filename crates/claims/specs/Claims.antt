@@ -5,10 +5,13 @@ use mathlib.Core.Path.{_≡_}
 use mathlib.Core.Bool.{true}
 use mathlib.Core.List.{List}
 use Prim.Native.Nat.{ℕ}
+use Rattle.model.specs.Lists.{all}
 use Rattle.model.specs.Formats.{LongSidesHalve}
 use Rattle.plan_model.specs.declared.Task.{Task}
 use Rattle.plan_model.specs.Meaning.{Meaning, Leaves, NotRead}
-use Rattle.plan_model.specs.Cases.{isPrinted, chapterSix, largestResponse}
+use Rattle.plan_model.specs.Overlap.{EveryOverlap}
+use Rattle.plan_model.specs.Thesis.{OnTimeByThesis}
+use Rattle.plan_model.specs.Cases.{isPrinted, chapterSix, isThesisRow, thesisRows, largestResponse}
 use Rattle.call_laws.specs.OpenExact.{OpensFresh}
 use Rattle.call_laws.specs.OfferExact.{Exact}
 use Rattle.call_laws.specs.OfferKept.{OfferKeepsSound, QuoteGivesOffer, FormatQuoteGivesOffer}
@@ -53,10 +56,15 @@ pub record Claims : Type 0 where
   -- Demand 1, from any sound image and not only from those that runs reach: a done call leaves a sound one.
   pub offers-keep-sound : OfferKeepsSound
   pub advances-keep-sound : AdvanceKeepsSound
-  -- Plan: what response and verdict of every task of a done plan mean, the thesis's own example, and a table with the largest response there is.
+  -- Plan: what response and verdict of every task of a done plan mean, and a table with the largest response there is.
   pub plan-means : Meaning
-  pub chapter-six : isPrinted chapterSix ≡ true
   pub largest-response : isPrinted largestResponse ≡ true
+  -- Document 02, (ii): "The planning test should count every release whose stay can overlap"
+  pub plan-counts : EveryOverlap
+  -- Which way that errs: who is on time is on time by the thesis's count too; what is printed for the thesis's own example, and responses by its count.
+  pub on-time-by-thesis : OnTimeByThesis
+  pub chapter-six : isPrinted chapterSix ≡ true
+  pub thesis-rows : all isThesisRow thesisRows ≡ true
   -- "a decline leaves the list alone"; "Costs beyond N are not read."
   pub plan-leaves : (n : ℕ) (tasks : List Task) → Leaves n tasks
   pub plan-reads-to-n : (n : ℕ) (tasks : List Task) → NotRead n tasks

@@ -5,7 +5,7 @@ use mathlib.Core.List.{List, [], _∷_, _++_, map}
 use Rattle.model.specs.Table.{Row, Hold}
 use Rattle.model.specs.Cases.{paperCases}
 use Rattle.model.specs.FormatCases.{formatCases}
-use Rattle.plan_model.specs.Cases.{Printing, isPrinted, paperTables}
+use Rattle.plan_model.specs.Cases.{Printing, isPrinted, paperTables, insideTables}
 
 pub data Case : Type 0 where
   -- Calls from a fresh cabinet on, row by row.
@@ -22,7 +22,7 @@ EachHolds [] = Unit {0}
 EachHolds (case ∷ later) = CaseHolds case × EachHolds later
 
 unfoldable pub paperTable : List Case
-paperTable = map ofCalls paperCases ++ map ofPlan paperTables ++ map ofCalls formatCases
+paperTable = map ofCalls paperCases ++ map ofPlan paperTables ++ map ofCalls formatCases ++ map ofPlan insideTables
 
 abbrev pub WorkedCases : Type 0
 WorkedCases = EachHolds paperTable

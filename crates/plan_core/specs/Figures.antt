@@ -4,7 +4,7 @@ use Prim.Native.Nat.{ℕ, _+_, _-_, _*_, _≤_, _<_}
 use lib.ListN.{getD, replicate}
 use Rattle.model.specs.Limits.{maxStations, maxCost}
 use Rattle.model.specs.Lists.{total, upward}
-use Rattle.plan_model.specs.Limits.{maxPeriod, maxTasks}
+use Rattle.plan_model.specs.Limits.{maxTasks}
 use Rattle.plan_model.specs.Response.{responseFrom}
 use Rattle.plan_core.specs.declared.table.Table.{Table}
 use Rattle.plan_core.specs.declared.records.Figures.{Figures}
@@ -30,6 +30,5 @@ figuresOf count t =
 
 -- What is known of a table whose figures are all in range.
 pub record RangedTable (count : ℕ) (t : Table) : Type 0 where
-  pub tasks : Ranged (t .periods) (t .costs) count
-  pub deadline-high : (k : ℕ) → k < count → getD (t .deadlines) k 0 ≤ maxPeriod
+  pub tasks : Ranged (t .periods) (t .deadlines) (t .costs) count
   pub maxima-high : total (t .maxima) ≤ (maxStations - 1) * maxCost

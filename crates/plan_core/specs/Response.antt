@@ -19,11 +19,12 @@ unfoldable pub stepOf : List ℕ → List ℕ → List ℕ → ℕ → ℕ → �
 stepOf periods deadlines costs count t base R = base + interferenceOf periods deadlines costs count t R
 
 -- What is known of the first count tasks.
-pub record Ranged (periods costs : List ℕ) (count : ℕ) : Type 0 where
-  pub period-low : (k : ℕ) → k < count → 1 ≤ getD periods k 0
+pub record Ranged (periods deadlines costs : List ℕ) (count : ℕ) : Type 0 where
+  pub deadline-low : (k : ℕ) → k < count → 1 ≤ getD deadlines k 0
+  pub deadline-high : (k : ℕ) → k < count → getD deadlines k 0 ≤ getD periods k 0
   pub period-high : (k : ℕ) → k < count → getD periods k 0 ≤ maxPeriod
   pub cost-high : (k : ℕ) → k < count → getD costs k 0 ≤ maxCost
 
--- The most that one task adds to an R of at most 60,000.
+-- The most that one task adds to an R below 60,000: as many releases as R has ticks.
 abbrev pub maxShare : ℕ
-maxShare = 360000000
+maxShare = 359994000

@@ -16,8 +16,8 @@ use Rattle.plan_model.specs.Base.{base}
 use Rattle.plan_model.specs.Response.{others, next}
 use Rattle.plan_model.specs.Plan.{inRange, planQuestions, planNumber, response, withFigures, figured, planned}
 use Rattle.plan_model.specs.Meaning.{Meant, Meaning}
-use Rattle.plan_model.proofs.Ranges.{inside, in-range, base-most}
-use Rattle.plan_model.proofs.Sequence.{response-first, on-time-means, late-means}
+use Rattle.plan_model.proofs.Ranges.{inside, in-range, base-least, base-most}
+use Rattle.plan_model.proofs.Sequence.{response-first, never-falls, on-time-means, late-means}
 use Rattle.plan_model.proofs.Steps.{all-others, length-others, next-rises, next-from, response-most}
 
 -- What a done plan says of its input.
@@ -53,15 +53,16 @@ meant n tasks d k h t r =
     let from = next-from n rest ranged b in
     let f = response-first (next n rest b) (t .deadline) rises b (from b) in
     record {
+      never-falls = never-falls (next n rest b) (t .deadline) rises b (from b);
       first-end = f;
       on-time = on-time-means (next n rest b) (t .deadline) rises b _ from f;
       late = late-means (next n rest b) (t .deadline) rises b _ f;
       base-most = base-most n tasks t (d .n-high) (d .ranged) r;
-      response-most = response-most n rest ranged b (t .deadline) (omega (arith, in-range n t r .deadline-high, in-range n t r .period-high)) (omega (arith, length-others k tasks h, d .count-high)) (base-most n tasks t (d .n-high) (d .ranged) r) _ f;
+      response-most = response-most n rest ranged b (t .deadline) (omega (arith, in-range n t r .deadline-high, in-range n t r .period-high)) (omega (arith, length-others k tasks h, d .count-high)) (base-least n tasks t (d .n-low) r) (base-most n tasks t (d .n-high) (d .ranged) r) _ f;
     }
 
 -- The figures at a place are those of the task there.
-planned-at : (n : ℕ) (tasks : List Task) (k : ℕ) (none : Task) → k < length tasks → getD (planned n tasks) k none ≡ figured n tasks k (getD tasks k none)
+pub planned-at : (n : ℕ) (tasks : List Task) (k : ℕ) (none : Task) → k < length tasks → getD (planned n tasks) k none ≡ figured n tasks k (getD tasks k none)
 unfolding planned
 planned-at n tasks k none h = getD-from (figured n tasks) 0 tasks k none none h ∙ rw (zero-add k)
 

@@ -6,8 +6,8 @@ use Prim.Native.Nat.{ℕ, zero, suc, _-_, _*_, _≤_, max}
 use native.Mathlib.Nat.{suc-mul}
 use native.Mathlib.Omega.{arith}
 use lib.ListN.{length, take, length-take}
-use lib.Dec.{leb}
-use borrow.Author.Tests.{leb-true}
+use lib.Dec.{leb, eqb}
+use borrow.Author.Tests.{leb-true, eqb-true}
 use Rattle.model.specs.Limits.{maxStations, maxCost}
 use Rattle.model.specs.Lists.{within, total, largest, larger, all}
 use Rattle.model.specs.DelayBound.{maximaOf}
@@ -16,7 +16,7 @@ use Rattle.lists.proofs.Maxima.{length-larger}
 use Rattle.plan_model.specs.declared.Task.{Task}
 use Rattle.plan_model.specs.Limits.{maxPeriod}
 use Rattle.plan_model.specs.Base.{largestCost, stageCosts, stageMaxima, base}
-use Rattle.plan_model.specs.Plan.{inRange}
+use Rattle.plan_model.specs.Plan.{areCosts, inRange}
 use Rattle.plan_model.specs.Meaning.{maxBase}
 
 pub inside : (low high x : ℕ) → within low high x ≡ true → (low ≤ x) × (x ≤ high)
@@ -34,26 +34,39 @@ costs-under (suc m) (suc n) (c ∷ l) h e =
     let both = and-both (within 1 maxCost c) (all (within 1 maxCost) (take n l)) e in
     omega (arith, inside 1 maxCost c (both .0) .1, costs-under m n l (omega arith) (both .1))
 
+-- It is 1 or more, where there is one.
+costs-over : (n : ℕ) (l : List ℕ) → 1 ≤ n → length l ≡ n → all (within 1 maxCost) l ≡ true → 1 ≤ largest l
+unfolding all largest
+costs-over n [] h long e = absurd (let z : ⊥ = omega arith in z)
+costs-over n (c ∷ l) h long e =
+    let both = and-both (within 1 maxCost c) (all (within 1 maxCost) l) e in
+    omega (arith, inside 1 maxCost c (both .0) .0)
+
 pub record InRange (n : ℕ) (t : Task) : Type 0 where
   pub period-low : 1 ≤ t .period
   pub period-high : t .period ≤ maxPeriod
+  pub deadline-low : 1 ≤ t .deadline
   pub deadline-high : t .deadline ≤ t .period
+  pub cost-low : 1 ≤ n → 1 ≤ largestCost n t
   pub cost-high : largestCost n t ≤ maxCost
   pub stages-high : largest (stageCosts n t) ≤ maxCost
 
 pub in-range : (n : ℕ) (t : Task) → inRange n t ≡ true → InRange n t
 unfolding inRange largestCost
 in-range n t e =
-    let three = and-both (within 1 maxPeriod (t .period) && within 1 (t .period) (t .deadline)) (all (within 1 maxCost) (take n (t .costs))) e in
+    let three = and-both (within 1 maxPeriod (t .period) && within 1 (t .period) (t .deadline)) (areCosts n (take n (t .costs))) e in
     let two = and-both (within 1 maxPeriod (t .period)) (within 1 (t .period) (t .deadline)) (three .0) in
     let period = inside 1 maxPeriod (t .period) (two .0) in
     let deadline = inside 1 (t .period) (t .deadline) (two .1) in
+    let costs = and-both (eqb (length (take n (t .costs))) n) (all (within 1 maxCost) (take n (t .costs))) (three .1) in
     record {
       period-low = period .0;
       period-high = period .1;
+      deadline-low = deadline .0;
       deadline-high = deadline .1;
-      cost-high = costs-under n n (t .costs) (omega arith) (three .1);
-      stages-high = costs-under (n - 1) n (t .costs) (omega arith) (three .1);
+      cost-low = λ h. costs-over n (take n (t .costs)) h (eqb-true (length (take n (t .costs))) n (costs .0)) (costs .1);
+      cost-high = costs-under n n (t .costs) (omega arith) (costs .1);
+      stages-high = costs-under (n - 1) n (t .costs) (omega arith) (costs .1);
     }
 
 -- The base: at most the largest cost for each station.
@@ -86,3 +99,7 @@ stages-most n tasks h e =
 pub base-most : (n : ℕ) (tasks : List Task) (t : Task) → n ≤ maxStations → all (inRange n) tasks ≡ true → inRange n t ≡ true → base n tasks t ≤ maxBase
 unfolding base
 base-most n tasks t h e r = omega (arith, stages-most n tasks h e, in-range n t r .cost-high)
+
+pub base-least : (n : ℕ) (tasks : List Task) (t : Task) → 1 ≤ n → inRange n t ≡ true → 1 ≤ base n tasks t
+unfolding base
+base-least n tasks t h r = omega (arith, in-range n t r .cost-low h)

@@ -37,6 +37,10 @@ in-time deadline R v = leb-false deadline R (go (leb deadline R) v)
     go true e = absurd (let z : ⊥ = unequal e in z)
     go false e = refl
 
+pub verdict-in-time : (deadline R : ℕ) → R < deadline → verdictOf deadline R ≡ OnTime
+unfolding verdictOf
+verdict-in-time deadline R h = rw (lt-leb deadline R h)
+
 too-late : (deadline R : ℕ) → verdictOf deadline R ≡ Late → deadline ≤ R
 unfolding verdictOf
 too-late deadline R v = leb-true deadline R (go (leb deadline R) v)
@@ -126,8 +130,8 @@ module _ (step : ℕ → ℕ) (deadline : ℕ) where
     unfolding responseFrom
     response-first base up = settled-first deadline base up (omega arith)
 
-    -- No R of the sequence is above a fixed point that the base is not above, and none is below the base.
-    under : (base x : ℕ) → base ≤ x → step x ≡ x → (j : ℕ) → sequence step base j ≤ x
+    -- No R of the sequence is above an x that the base is not above and a step from x is not; a fixed point is such an x. And none is below the base.
+    pub under : (base x : ℕ) → base ≤ x → step x ≤ x → (j : ℕ) → sequence step base j ≤ x
     unfolding sequence
     under base x h e zero = h
     under base x h e (suc j) = omega (arith, rises (sequence step base j) x (under base x h e j), e)
@@ -137,6 +141,11 @@ module _ (step : ℕ → ℕ) (deadline : ℕ) where
     over base from zero = le-refl base
     over base from (suc j) = from (sequence step base j)
 
+    pub never-falls : (base : ℕ) → base ≤ step base → (j : ℕ) → sequence step base j ≤ sequence step base (suc j)
+    unfolding sequence
+    never-falls base up zero = up
+    never-falls base up (suc j) = rises _ _ (never-falls base up j)
+
     pub on-time-means : (base R : ℕ) → ((R : ℕ) → base ≤ step R) → FirstEnd step deadline base R → verdictOf deadline R ≡ OnTime → LeastFixed step deadline base R
     on-time-means base R from f v =
         let below : R < deadline = in-time deadline R v in
@@ -144,7 +153,7 @@ module _ (step : ℕ → ℕ) (deadline : ℕ) where
           above = rw (f .is) (over base from (f .place));
           below = below;
           fixed = repeats R (f .ended) below;
-          least = λ x h e. rw (f .is) (under base x h e (f .place));
+          least = λ x h e. rw (f .is) (under base x h (omega (arith, e)) (f .place));
         }
 
     pub late-means : (base R : ℕ) → FirstEnd step deadline base R → verdictOf deadline R ≡ Late → FirstPast step deadline base R

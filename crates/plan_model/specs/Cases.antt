@@ -13,6 +13,7 @@ use Rattle.plan_model.specs.declared.Task.{Task}
 use Rattle.plan_model.specs.Base.{largestCost, stageMaxima, base}
 use Rattle.plan_model.specs.Response.{releases, share, others, next, ends, settled, responseFrom, verdictOf}
 use Rattle.plan_model.specs.Plan.{inRange, planQuestions, planNumber, response, withFigures, figured, planned}
+use Rattle.plan_model.specs.Thesis.{thesisShare, thesisNext, thesisResponse, thesisResponses}
 use Rattle.plan_model.specs.Parts.{parts, lastOf}
 use Rattle.plan_model.specs.Number.{isNumber, valueOf}
 use Rattle.plan_model.specs.Input.{linesOf, lines, isStations, stationsOf, isNumbers, isTaskLines, taskOf, taskAt, tasksOf, formQuestions, inputQuestions, inputNumber}
@@ -28,26 +29,70 @@ unfoldable pub isPrinted : Printing → Bool
 unfolding total largest larger concat all same numbered upward firstNo maximaOf digits decimal largestCost stageMaxima base roundedUp releases share others next ends settled responseFrom verdictOf inRange response withFigures figured planned parts lastOf isNumber valueOf linesOf lines isStations stationsOf isNumbers isTaskLines taskOf taskAt tasksOf formQuestions inputQuestions inputNumber field taskLine taskLines table refusal planOutput
 isPrinted (input prints output) = same (planOutput input) output
 
--- "For `2`, `10 10 2 3`, `8 8 1 2` it prints, whole"
+-- The table of document 01, "For `2`, `10 10 2 3`, `8 8 1 2` it prints, whole". Document 02, (ii): "Document 01's first table then has responses 9 and 10, the
+-- second task late".
 abbrev pub firstTable : Printing
 firstTable =
     ascii "2\n10 10 2 3\n8 8 1 2\n"
-    prints ascii "task base response verdict\n1 5 7 on-time\n2 4 7 on-time\n"
+    prints ascii "task base response verdict\n1 5 9 on-time\n2 4 10 late\n"
 
--- "With deadline 7 for task 2 its line is `2 4 7 late`."
+-- Document 02, (ii): "with deadline 7 for task 2 both figures are the same"
 abbrev pub secondTable : Printing
 secondTable =
     ascii "2\n10 10 2 3\n8 7 1 2\n"
-    prints ascii "task base response verdict\n1 5 7 on-time\n2 4 7 late\n"
+    prints ascii "task base response verdict\n1 5 9 on-time\n2 4 10 late\n"
 
 abbrev pub paperTables : List Printing
 paperTables = firstTable ∷ secondTable ∷ []
 
--- Document 004, chapter 6: two tasks of period and deadline 5 on three stations, each cost 1. Their response is 4, on time; holistic analysis says 6, late.
+-- Document 004, chapter 6: two tasks of period and deadline 5 on three stations, each cost 1. By the thesis's count their response is 4, on time; holistic
+-- analysis says 6, late. By (ii) R comes to 5, which is not below the deadline.
 abbrev pub chapterSix : Printing
 chapterSix =
     ascii "3\n5 5 1 1 1\n5 5 1 1 1\n"
-    prints ascii "task base response verdict\n1 3 4 on-time\n2 3 4 on-time\n"
+    prints ascii "task base response verdict\n1 3 5 late\n2 3 5 late\n"
+
+-- Of late tasks neither count always has the larger figure: the sequence that rises faster may end earlier. The first task ends at 12 here, and at 16 by the
+-- thesis's count.
+abbrev pub endsEarlier : Printing
+endsEarlier =
+    ascii "1\n100 11 4\n1 1 1\n100 100 2\n"
+    prints ascii "task base response verdict\n1 4 12 late\n2 1 1 late\n3 2 102 late\n"
+
+-- R and deadline at their largest, on time: in the first task's line 59,999 + 60,000 - 1 ticks hold two releases of the second.
+abbrev pub mostTicks : Printing
+mostTicks =
+    ascii "8\n60000 60000 5999 5999 5999 5999 5999 5999 5999 5999\n60000 60000 6000 6000 6000 6000 6000 6000 6000 1\n"
+    prints ascii "task base response verdict\n1 47999 59999 on-time\n2 48000 59998 on-time\n"
+
+-- Right from nearly right. In the first two tables the first task's R comes to 6. Releases of the second task whose stay can overlap then lie within
+-- 6 + 5 - 1 ticks, which is its period: one counts. With deadline 6 they lie within 11 ticks, and two count. With the period in place of the deadline, or
+-- without the 1 taken off, the first of them would have 8 as well. The others are those above.
+abbrev pub insideTables : List Printing
+insideTables =
+    (ascii "1\n100 20 4\n10 5 2\n" prints ascii "task base response verdict\n1 4 6 on-time\n2 2 6 late\n")
+    ∷ (ascii "1\n100 20 4\n10 6 2\n" prints ascii "task base response verdict\n1 4 8 on-time\n2 2 6 late\n")
+    ∷ endsEarlier
+    ∷ mostTicks
+    ∷ []
+
+-- For this input these are the responses by the thesis's count, task by task.
+infix 4 _has_
+pub data ThesisRow : Type 0 where
+  _has_ : List ℕ → List ℕ → ThesisRow
+
+unfoldable pub isThesisRow : ThesisRow → Bool
+unfolding total largest larger same numbered maximaOf largestCost stageMaxima base roundedUp thesisShare others thesisNext ends settled responseFrom thesisResponse thesisResponses parts valueOf linesOf lines stationsOf taskOf taskAt tasksOf
+isThesisRow (input has responses) = same (thesisResponses (stationsOf input) (tasksOf input)) responses
+
+-- Document 01's tables, the thesis's own example, and the table where its figure for a late task is the larger.
+abbrev pub thesisRows : List ThesisRow
+thesisRows =
+    (ascii "2\n10 10 2 3\n8 8 1 2\n" has (7 ∷ 7 ∷ []))
+    ∷ (ascii "2\n10 10 2 3\n8 7 1 2\n" has (7 ∷ 7 ∷ []))
+    ∷ (ascii "3\n5 5 1 1 1\n5 5 1 1 1\n" has (4 ∷ 4 ∷ []))
+    ∷ (ascii "1\n100 11 4\n1 1 1\n100 100 2\n" has (16 ∷ 1 ∷ 104 ∷ []))
+    ∷ []
 
 -- The largest response there is: of a task whose base, 48,000, is below its deadline, beside 31 tasks of period 1 and cost 6,000. Those end with their bases.
 unfoldable pub lateLines : List ℕ

@@ -9,4 +9,6 @@ pub mod Number
 pub mod Input
 pub mod Output
 pub mod Meaning
+pub mod Overlap
+pub mod Thesis
 pub mod Cases

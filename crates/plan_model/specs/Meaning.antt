@@ -47,6 +47,7 @@ maxBase = 48000
 
 -- Response and verdict of a task, by its base and what replaces R.
 pub record Meant (step : ℕ → ℕ) (deadline base R : ℕ) (verdict : Verdict) : Type 0 where
+  pub never-falls : (j : ℕ) → sequence step base j ≤ sequence step base (suc j)
   pub first-end : FirstEnd step deadline base R
   pub on-time : verdict ≡ OnTime → LeastFixed step deadline base R
   pub late : verdict ≡ Late → FirstPast step deadline base R

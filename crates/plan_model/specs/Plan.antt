@@ -3,6 +3,7 @@ use mathlib.Core.Bool.{Bool, true, false, _&&_}
 use mathlib.Core.List.{List, [], _∷_}
 use Prim.Native.Nat.{ℕ}
 use lib.ListN.{length, take}
+use lib.Dec.{eqb}
 use Rattle.model.specs.Limits.{maxStations, maxCost}
 use Rattle.model.specs.Lists.{within, isZero, all, numbered}
 use Rattle.model.specs.Questions.{Question, _else_, firstNo}
@@ -11,9 +12,13 @@ use Rattle.plan_model.specs.Limits.{maxPeriod, maxTasks}
 use Rattle.plan_model.specs.Base.{base}
 use Rattle.plan_model.specs.Response.{others, next, responseFrom, verdictOf}
 
+-- "N costs", each "1 to 6,000". Every record has eight; a list with fewer than N is none.
+abbrev pub areCosts : ℕ → List ℕ → Bool
+areCosts n costs = eqb (length costs) n && all (within 1 maxCost) costs
+
 -- "period 1 to 60,000, deadline 1 to the period, costs 1 to 6,000"
 unfoldable pub inRange : ℕ → Task → Bool
-inRange n t = within 1 maxPeriod (t .period) && within 1 (t .period) (t .deadline) && all (within 1 maxCost) (take n (t .costs))
+inRange n t = within 1 maxPeriod (t .period) && within 1 (t .period) (t .deadline) && areCosts n (take n (t .costs))
 
 -- "It declines N by 14, a count outside 1 to 32 by 17, and figures out of range by 18, in that order"
 unfoldable pub planQuestions : ℕ → List Task → List Question

@@ -1,7 +1,7 @@
 -- The response of a task: the sequence of R, where it ends, and the verdict.
 use mathlib.Core.Bool.{Bool, true, false, _||_}
 use mathlib.Core.List.{List, [], _∷_, map}
-use Prim.Native.Nat.{ℕ, zero, suc, _+_, _*_}
+use Prim.Native.Nat.{ℕ, zero, suc, _+_, _-_, _*_}
 use lib.Dec.{eqb, leb}
 use Rattle.model.specs.Lists.{roundedUp, total}
 use Rattle.plan_model.specs.declared.Task.{Task}
@@ -9,11 +9,14 @@ use Rattle.plan_model.specs.declared.Verdict.{Verdict}
 use Rattle.plan_model.specs.declared.Verdict.the-variants.{OnTime, Late}
 use Rattle.plan_model.specs.Base.{largestCost}
 
--- "R / period of i, rounded up": how many releases of a task with this deadline and period count against R. The deadline plays no part in it.
+-- Document 02, (ii): "The factor for task i becomes (R + deadline of i - 1) / period of i, rounded up." How many releases of a task with this deadline and
+-- period count against R: all whose stay can overlap R ticks (specs/Overlap.antt). Document 000, section 4, has the reason, at its definition of the worst-case
+-- set: each job is in it whose interval from arrival to deadline overlaps the one in which the job in question is inside; any other is out before that one
+-- comes, or comes after it is out.
 unfoldable pub releases : (R deadline period : ℕ) → ℕ
-releases R deadline period = roundedUp R period
+releases R deadline period = roundedUp (R + deadline - 1) period
 
--- "(R / period of i, rounded up) × largest cost of i"
+-- The factor of task i "× largest cost of i"
 unfoldable pub share : ℕ → ℕ → Task → ℕ
 share n R i = releases R (i .deadline) (i .period) * largestCost n i
 

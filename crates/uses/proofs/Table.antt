@@ -23,7 +23,7 @@ counter =
     let c = claims .worked-cases in
     (c .0, c .1 .0, c .1 .1 .0, c .1 .1 .1 .0, c .1 .1 .1 .1 .0, c .1 .1 .1 .1 .1 .0, c .1 .1 .1 .1 .1 .1 .0)
 
-plans : (isPrinted (ascii "2\n10 10 2 3\n8 8 1 2\n" prints ascii "task base response verdict\n1 5 7 on-time\n2 4 7 on-time\n") ≡ true) × (isPrinted (ascii "2\n10 10 2 3\n8 7 1 2\n" prints ascii "task base response verdict\n1 5 7 on-time\n2 4 7 late\n") ≡ true)
+plans : (isPrinted (ascii "2\n10 10 2 3\n8 8 1 2\n" prints ascii "task base response verdict\n1 5 9 on-time\n2 4 10 late\n") ≡ true) × (isPrinted (ascii "2\n10 10 2 3\n8 7 1 2\n" prints ascii "task base response verdict\n1 5 9 on-time\n2 4 10 late\n") ≡ true)
 unfolding paperTable paperCases
 plans = let c = claims .worked-cases .1 .1 .1 .1 .1 .1 .1 in (c .0, c .1 .0)
 
@@ -31,6 +31,11 @@ plans = let c = claims .worked-cases .1 .1 .1 .1 .1 .1 .1 in (c .0, c .1 .0)
 byFormats : Hold firstTwoByFormat × Hold lateByFormat × Hold tenFormats × Hold formatNumbers
 unfolding paperTable paperCases formatCases
 byFormats = let c = claims .worked-cases .1 .1 .1 .1 .1 .1 .1 .1 .1 in (c .0, c .1 .0, c .1 .1 .0, c .1 .1 .1 .0)
+
+-- ---- plan's further tables
+inside : (isPrinted (ascii "1\n100 20 4\n10 5 2\n" prints ascii "task base response verdict\n1 4 6 on-time\n2 2 6 late\n") ≡ true) × (isPrinted (ascii "1\n100 20 4\n10 6 2\n" prints ascii "task base response verdict\n1 4 8 on-time\n2 2 6 late\n") ≡ true) × (isPrinted (ascii "1\n100 11 4\n1 1 1\n100 100 2\n" prints ascii "task base response verdict\n1 4 12 late\n2 1 1 late\n3 2 102 late\n") ≡ true) × (isPrinted (ascii "8\n60000 60000 5999 5999 5999 5999 5999 5999 5999 5999\n60000 60000 6000 6000 6000 6000 6000 6000 6000 1\n" prints ascii "task base response verdict\n1 47999 59999 on-time\n2 48000 59998 on-time\n") ≡ true)
+unfolding paperTable paperCases formatCases
+inside = let c = claims .worked-cases .1 .1 .1 .1 .1 .1 .1 .1 .1 .1 .1 .1 .1 in (c .0, c .1 .0, c .1 .1 .0, c .1 .1 .1 .0)
 
 -- ---- their rows: an offer with its number, ticket, tick and margin; an advance with the ticket out and the clock
 abbrev rowAt : List Row → ℕ → Row

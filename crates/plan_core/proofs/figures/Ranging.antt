@@ -24,11 +24,11 @@ unfolding tableTo
 table-ranged stations k xs narrow inside-list all-ranged =
     record {
       tasks = record {
-        period-low = λ i h. rw (period i h) (each i h .period-low);
+        deadline-low = λ i h. rw (deadline i h) (each i h .deadline-low);
+        deadline-high = λ i h. rw (deadline i h, period i h) (each i h .deadline-high);
         period-high = λ i h. rw (period i h) (each i h .period-high);
         cost-high = λ i h. rw (costs-are stations xs k inside-list, front k (maxTasks - k) i (λ j. largestCost stations (getD xs j beyond)) h) (each i h .cost-high);
       };
-      deadline-high = λ i h. rw (deadlines-are stations xs k inside-list, front k (maxTasks - k) i (λ j. getD xs j beyond .deadline) h) (omega (arith, each i h .deadline-high, each i h .period-high));
       maxima-high = rw (stages-are stations xs k) (stages-most stations (take k xs) narrow all-ranged);
     }
   where
@@ -39,3 +39,6 @@ table-ranged stations k xs narrow inside-list all-ranged =
 
     period : (i : ℕ) → i < k → getD (tableTo stations k xs .periods) i 0 ≡ getD xs i beyond .period
     period i h = rw (periods-are stations xs k inside-list) (front k (maxTasks - k) i (λ j. getD xs j beyond .period) h)
+
+    deadline : (i : ℕ) → i < k → getD (tableTo stations k xs .deadlines) i 0 ≡ getD xs i beyond .deadline
+    deadline i h = rw (deadlines-are stations xs k inside-list) (front k (maxTasks - k) i (λ j. getD xs j beyond .deadline) h)

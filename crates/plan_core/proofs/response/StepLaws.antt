@@ -2,7 +2,7 @@
 use mathlib.Core.Path.{_≡_, refl, sym, ap, _∙_}
 use mathlib.Core.List.{List, [], _∷_, _++_}
 use mathlib.Core.Logic.{⊎-elim, _⊎_, inl, inr}
-use Prim.Native.Nat.{ℕ, zero, suc, _+_, _*_, _≤_, _<_}
+use Prim.Native.Nat.{ℕ, zero, suc, _+_, _-_, _*_, _≤_, _<_}
 use native.Mathlib.Nat.{mul-le-mul, mul-le-mul-right}
 use native.Mathlib.Numerals.{add-one}
 use native.Mathlib.Omega.{arith}
@@ -19,10 +19,12 @@ use Rattle.plan_model.proofs.Releases.{releases-most, releases-rise}
 use Rattle.plan_model.proofs.Sequence.{Rises}
 use Rattle.plan_core.specs.Response.{shareAt, interferenceOf, stepOf, Ranged, maxShare}
 
-pub share-most : (R d p c : ℕ) → 1 ≤ p → R ≤ maxPeriod → c ≤ maxCost → releases R d p * c ≤ maxShare
-share-most R d p c h r k =
-    let few : releases R d p ≤ maxPeriod = omega (arith, releases-most R d p h) in
-    let product : releases R d p * c ≤ maxPeriod * maxCost = mul-le-mul few k in
+pub few-releases : (R d p : ℕ) → 1 ≤ d → d ≤ p → R < maxPeriod → releases R d p ≤ maxPeriod - 1
+few-releases R d p low high r = releases-most R (maxPeriod - 1) d p (omega arith) high (omega arith) (omega arith)
+
+pub share-most : (R d p c : ℕ) → 1 ≤ d → d ≤ p → R < maxPeriod → c ≤ maxCost → releases R d p * c ≤ maxShare
+share-most R d p c low high r k =
+    let product : releases R d p * c ≤ (maxPeriod - 1) * maxCost = mul-le-mul (few-releases R d p low high r) k in
     omega arith
 
 -- All but one, with one more at the end.
@@ -71,9 +73,9 @@ module _ (periods deadlines costs : List ℕ) (t : ℕ) where
       (λ ne. omega (arith, other-adds i R ne, other-adds i S ne, mul-le-mul-right (getD costs i 0) (releases-rise R S (getD deadlines i 0) (getD periods i 0) (low i (omega arith)) h)))
       (same-or-not i t))
 
-  pub step-rises : (count base : ℕ) → Ranged periods costs count → Rises (stepOf periods deadlines costs count t base)
+  pub step-rises : (count base : ℕ) → Ranged periods deadlines costs count → Rises (stepOf periods deadlines costs count t base)
   unfolding stepOf
-  step-rises count base ranged R S h = omega (arith, interference-rises count R S (ranged .period-low) h)
+  step-rises count base ranged R S h = omega (arith, interference-rises count R S (λ k l. omega (arith, ranged .deadline-low k l, ranged .deadline-high k l)) h)
 
   pub step-from : (count base R : ℕ) → base ≤ stepOf periods deadlines costs count t base R
   unfolding stepOf

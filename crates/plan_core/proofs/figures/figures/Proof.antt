@@ -1,7 +1,7 @@
 -- The figures so far, and 0 after them.
 use mathlib.Core.Path.{_≡_, refl}
 use mathlib.Core.List.{_++_}
-use Prim.Native.Nat.{_-_, _≤_}
+use Prim.Native.Nat.{_-_, _≤_, _<_}
 use native.Mathlib.Omega.{arith}
 use lib.ListN.{replicate}
 use Rattle.model.specs.Lists.{upward}
@@ -53,7 +53,10 @@ array-write-bases c = omega arith
 response-requires : tie.Need-response-requires Inv-loop μ-loop
 response-requires c κs =
     let top = c .before .before .before .before .before .before .before .before .before .before in
-    (top .pre .0, top .pre .1 .deadline-high (c .before .before .before .before .loop .i) (omega arith), top .pre .1 .tasks)
+    let i = c .before .before .before .before .loop .i in
+    let l : i < top .args .count = omega arith in
+    let ranged = top .pre .1 .tasks in
+    (top .pre .0, omega (arith, ranged .deadline-high i l, ranged .period-high i l), ranged)
 
 mul-responses : tie.Need-mul-responses Inv-loop μ-loop
 mul-responses c = omega arith

@@ -43,7 +43,7 @@ share-requires c κs =
     let i = c .before .before .before .before .before .loop .i in
     let l : i < top .args .count = omega arith in
     let ranged = top .pre .2 in
-    (top .pre .1, ranged .period-low i l, ranged .period-high i l, ranged .cost-high i l)
+    (top .pre .1, ranged .deadline-low i l, ranged .deadline-high i l, ranged .period-high i l, ranged .cost-high i l)
 
 add-sum : tie.Need-add-sum Inv-loop μ-loop
 add-sum c = omega arith

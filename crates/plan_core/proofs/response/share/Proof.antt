@@ -12,19 +12,19 @@ releases-requires c κs = search needs
 mul-result : tie.Need-mul-result
 mul-result c =
     let a = c .before .args in
-    let few = share-most (a .r) (a .deadline) (a .period) (a .cost) (c .before .pre .1) (c .before .pre .0) (c .before .pre .3) in
+    let few = share-most (a .r) (a .deadline) (a .period) (a .cost) (c .before .pre .1) (c .before .pre .2) (c .before .pre .0) (c .before .pre .4) in
     rw (c .releases .ensures .0) (omega (arith, few))
 
 cast-result : tie.Need-cast-result
 cast-result c =
     let a = c .before .args in
-    let few = share-most (a .r) (a .deadline) (a .period) (a .cost) (c .before .pre .1) (c .before .pre .0) (c .before .pre .3) in
+    let few = share-most (a .r) (a .deadline) (a .period) (a .cost) (c .before .pre .1) (c .before .pre .2) (c .before .pre .0) (c .before .pre .4) in
     rw (c .releases .ensures .0) (omega (arith, few))
 
 returns : tie.Need-returns
 returns c =
     let a = c .before .args in
-    let few = share-most (a .r) (a .deadline) (a .period) (a .cost) (c .before .pre .1) (c .before .pre .0) (c .before .pre .3) in
+    let few = share-most (a .r) (a .deadline) (a .period) (a .cost) (c .before .pre .1) (c .before .pre .2) (c .before .pre .0) (c .before .pre .4) in
     rw (c .releases .ensures .0) (refl, few)
 
 pub share-spec : {M : Type 1} → statement M
