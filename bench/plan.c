@@ -20,7 +20,7 @@ static int in_range(const struct task *t, uint32_t n)
 
 uint32_t plain_plan(struct task *tasks, size_t count, uint32_t n)
 {
-    uint32_t periods[TASKS], costs[TASKS], maxima[COSTS] = {0}, stages = 0;
+    uint32_t periods[TASKS], deadlines[TASKS], costs[TASKS], maxima[COSTS] = {0}, stages = 0;
 
     if (n < 1 || n > COSTS)
         return 14;
@@ -30,6 +30,7 @@ uint32_t plain_plan(struct task *tasks, size_t count, uint32_t n)
         if (!in_range(&tasks[i], n))
             return 18;
         periods[i] = tasks[i].period;
+        deadlines[i] = tasks[i].deadline;
         costs[i] = 0;
         for (uint32_t k = 0; k < n; k++) {
             costs[i] = larger(costs[i], tasks[i].costs[k]);
@@ -39,13 +40,13 @@ uint32_t plain_plan(struct task *tasks, size_t count, uint32_t n)
     for (uint32_t k = 0; k + 1 < n; k++)
         stages += maxima[k];
     for (size_t t = 0; t < count; t++) {
-        uint32_t deadline = tasks[t].deadline, base = costs[t] + stages;
+        uint32_t deadline = deadlines[t], base = costs[t] + stages;
         uint64_t r = base;
         while (r < deadline) {
             uint64_t next = base;
             for (size_t i = 0; i < count; i++)
                 if (i != t)
-                    next += ((uint32_t)r + periods[i] - 1) / periods[i] * costs[i];
+                    next += ((uint32_t)r + deadlines[i] - 1 + periods[i] - 1) / periods[i] * costs[i];
             if (next == r)
                 break;
             r = next;

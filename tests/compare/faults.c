@@ -6,6 +6,7 @@
 #include "../../firmware/bytes.h"
 #include "../layout.h"
 
+#include <stdio.h>
 #include <stdlib.h>
 #include <string.h>
 
@@ -21,6 +22,7 @@ size_t right_plan_text(const uint8_t *input, size_t input_len, uint8_t *out);
 size_t plan_probe_text(const uint8_t *input, size_t input_len, uint8_t *out);
 
 #define OUT 1024 /* bytes that plan may write */
+#define TASKS 32 /* of a table, at most */
 
 static int fault(void)
 {
@@ -770,11 +772,94 @@ static unsigned long field(const char *line, unsigned place)
     return strtoul(line, NULL, 10);
 }
 
+/* A table of tasks, of which the right output has the bases. */
+struct tasks {
+    unsigned count;
+    unsigned long period[TASKS], deadline[TASKS], cost[TASKS], base[TASKS];
+};
+
+static void read_tasks(struct tasks *all, const char *given, const char *text)
+{
+    unsigned stations = (unsigned)field(given, 0);
+    const char *task = strchr(given, '\n') + 1, *line = strchr(text, '\n') + 1;
+    for (all->count = 0; *task != 0; task = strchr(task, '\n') + 1, line = strchr(line, '\n') + 1) {
+        unsigned k = all->count++;
+        all->period[k] = field(task, 0);
+        all->deadline[k] = field(task, 1);
+        all->cost[k] = 0;
+        for (unsigned j = 0; j < stations; j++)
+            if (field(task, 2 + j) > all->cost[k])
+                all->cost[k] = field(task, 2 + j);
+        all->base[k] = field(line, 1);
+    }
+}
+
+static unsigned long rounded_up(unsigned long a, unsigned long b)
+{
+    return (a + b - 1) / b;
+}
+
+/* How many releases of task i count against r, the response of task t so far. */
+static unsigned long releases(const struct tasks *all, unsigned long r, unsigned t, unsigned i)
+{
+    unsigned long period = all->period[i], deadline = all->deadline[i], ticks = r + deadline - 1;
+    switch (fault()) {
+    case 120: return rounded_up(r, period); /* plan counts the releases in R ticks alone */
+    case 121: return rounded_up(ticks + 1, period); /* plan counts them in R + deadline ticks */
+    case 122: return rounded_up(ticks - 1, period); /* plan counts them in R + deadline - 2 ticks */
+    case 123: return rounded_up(r + all->deadline[t] - 1, period); /* plan takes the own deadline for another task's */
+    case 124: return rounded_up(r + all->deadline[i == 0 ? 0 : i - 1] - 1, period); /* plan takes the deadline of the task before */
+    case 125: return rounded_up(r + period - 1, period); /* plan takes the period for the deadline */
+    case 126: return rounded_up(ticks, all->period[t]); /* plan takes the own period for another task's */
+    case 127: return ticks / period; /* plan rounds the releases down */
+    case 128: return ticks / period + 1; /* plan counts one release more where the period divides the ticks */
+    case 129: return rounded_up(r, period) + 1; /* plan counts one release inside, whatever the deadline */
+    case 130: return rounded_up(r == all->base[t] ? ticks : r, period); /* plan counts who is inside against the base alone */
+    case 131: return rounded_up(deadline == period ? ticks : r, period); /* plan counts who is inside where the deadline is the period */
+    case 132: return rounded_up(i < t ? ticks : r, period); /* plan counts who is inside of the tasks before it in the table */
+    case 133: return rounded_up(ticks & 0xffff, period); /* plan counts the ticks in 16 bits */
+    default: return rounded_up(ticks, period);
+    }
+}
+
+/* The table that plan prints, with one fault in its responses. */
+static size_t replanned(const struct tasks *all, char *text)
+{
+    char *end = strchr(text, '\n') + 1;
+    for (unsigned t = 0; t < all->count; t++) {
+        unsigned long r = all->base[t];
+        while (r < all->deadline[t]) {
+            unsigned long next = all->base[t];
+            for (unsigned i = 0; i < all->count; i++)
+                if (i != t || fault() == 134) /* plan counts the own task */
+                    next += releases(all, r, t, i) * all->cost[i];
+            if (next <= r)
+                break;
+            r = next;
+        }
+        end += sprintf(end, "%u %lu %lu %s\n", t + 1, all->base[t], r, r < all->deadline[t] ? "on-time" : "late");
+    }
+    return (size_t)(end - text);
+}
+
 size_t plan_probe_text(const uint8_t *input, size_t input_len, uint8_t *out)
 {
     size_t length = right_plan_text(input, input_len, out);
     int table = length > 0 && out[0] == 't';
-    char given[16400], text[OUT + 100];
+    char given[16400], text[2 * OUT];
+    if (table && (fault() == 0 || fault() >= 120)) {
+        static struct tasks all;
+        memcpy(given, input, input_len);
+        given[input_len] = 0;
+        memcpy(text, out, length);
+        text[length] = 0;
+        read_tasks(&all, given, text);
+        size_t again = replanned(&all, text);
+        if (fault() == 0 && (again != length || memcmp(text, out, length) != 0))
+            abort(); /* without a fault it is the table */
+        length = again < OUT ? again : OUT;
+        memcpy(out, text, length);
+    }
     if (fault() == 57 && table) { /* a response at the deadline is on time */
         memcpy(given, input, input_len);
         given[input_len] = 0;

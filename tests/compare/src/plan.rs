@@ -53,18 +53,37 @@ fn tasks(rng: &mut Rng, n: u64, style: u64) -> Vec<Task> {
     }).collect()
 }
 
-/// An input at a limit: deadlines at the response and beside it, one figure at its limit or beyond it, 32 and 33 lines, 16,384 and 16,385 bytes.
+/// Deadlines of a table: each its period or less, and then some at a limit. The own deadline plays no part in a response until that reaches it, so it is put at
+/// the response and beside it. The deadline of another task is put where one release of it more begins to count against that response.
+fn limit_deadlines(rng: &mut Rng, n: u64, table: &mut [Task]) {
+    for t in table.iter_mut() {
+        t.deadline = match rng.below(4) { 0 => rng.range(1, t.period), 1 => rng.range(1, t.period.min(40)), _ => t.period };
+    }
+    for _ in 0..rng.range(1, 4) {
+        let k = rng.below(table.len() as u64) as usize;
+        table[k].deadline = table[k].period;
+        let mut figures = table.to_vec();
+        assert_eq!(plan::plan(level(), n, &mut figures), 0);
+        let (base, response) = (figures[k].base, figures[k].response);
+        let other = rng.below(table.len() as u64) as usize;
+        if other != k && rng.one_in(2) {
+            let t = &mut table[other];
+            // so many that response + deadline - 1 is a multiple of the period, or one more
+            let full = t.period - (response - 1) % t.period;
+            t.deadline = if rng.one_in(2) { full } else { full % t.period + 1 };
+        } else {
+            let near = match rng.below(5) { 0 => response, 1 => response + 1, 2 => response - 1, 3 => base, _ => base + 1 };
+            table[k].deadline = near.clamp(1, table[k].period);
+        }
+    }
+}
+
+/// An input at a limit: its deadlines, one figure at its limit or beyond it, 32 and 33 lines, 16,384 and 16,385 bytes.
 fn limit_input(rng: &mut Rng) -> Vec<u8> {
     let n = rng.range(1, 8);
     let style = rng.below(6);
     let mut table = tasks(rng, n, style);
-    let mut figures = table.clone();
-    assert_eq!(plan::plan(level(), n, &mut figures), 0);
-    for (t, with) in table.iter_mut().zip(&figures) {
-        // The response does not depend on the own deadline until it is reached.
-        let near = match rng.below(6) { 0 => with.response, 1 => with.response + 1, 2 => with.response - 1, 3 => with.base, 4 => with.base + 1, _ => t.period };
-        t.deadline = near.clamp(1, t.period);
-    }
+    limit_deadlines(rng, n, &mut table);
     let k = rng.below(table.len() as u64) as usize;
     let j = rng.below(n) as usize;
     match rng.below(16) {
