@@ -90,11 +90,12 @@ def main():
     open(f"{TREE}/TABLE", "w").write(table)
     call = "target/bin/plan < TABLE"
     same(call, figures, run(call, folder=TREE))
-    # "With deadline 7 in place of 8 the last line is `2 4 7 late`"
-    shown = re.search(r"With deadline 7 in place of 8 the last\s+line is `([^`]*)`", page).group(1)
+    # "of the second task it is 10, also with deadline 7 in place of 8"
+    shown = re.search(r"of the second task it is (\d+), also with deadline 7 in place of 8", " ".join(page.split())).group(1)
     open(f"{TREE}/TABLE", "w").write(table.replace("\n8 8 ", "\n8 7 "))
-    if run(call, folder=TREE).splitlines()[-1] != shown:
-        sys.exit(f"with deadline 7 plan does not print '{shown}'")
+    for second in (figures.splitlines()[-1], run(call, folder=TREE).splitlines()[-1]):
+        if second.split()[2] != shown:
+            sys.exit(f"plan prints '{second}', and not the response {shown}")
     trial = mistakes.Trial(TREE, [os.path.abspath("target/bin/plan")], at_level(sys.argv[2], "plan"))
     try:
         rows = mistakes.check(page, table, figures, trial)
