@@ -1,6 +1,6 @@
 -- Bases and responses over plain numbers.
 use mathlib.Core.List.{List, _++_}
-use Prim.Native.Nat.{ℕ, _+_, _-_, _*_, _≤_, _<_}
+use Prim.Native.Nat.{ℕ, _+_, _-_, _*_, _≤_}
 use lib.ListN.{getD, replicate}
 use Rattle.model.specs.Limits.{maxStations, maxCost}
 use Rattle.model.specs.Lists.{total, upward}

@@ -1,6 +1,6 @@
 -- `releases` counts as many releases as can overlap, and no more.
 use mathlib.Core.Path.{_≡_, refl}
-use mathlib.Core.Bool.{true, _&&_}
+use mathlib.Core.Bool.{true}
 use mathlib.Core.List.{List, [], _∷_}
 use Prim.Native.Nat.{ℕ, zero, suc, _+_, _-_, _*_, _≤_, _<_}
 use native.Mathlib.Nat.{suc-mul, zero-mul}
@@ -13,7 +13,7 @@ use Rattle.lists.proofs.Tests.{and-both}
 use Rattle.lists.proofs.Fills.{length-upward}
 use Rattle.lists.proofs.Rounding.{up-beyond, up-short}
 use Rattle.plan_model.specs.Response.{releases}
-use Rattle.plan_model.specs.Overlap.{overlaps, apart, Overlapping, Counted, EveryOverlap}
+use Rattle.plan_model.specs.Overlap.{overlaps, apart, EveryOverlap}
 
 module _ (R deadline period : ℕ) where
   -- The last of so many releases comes that many periods after the first, and before the R ticks end.

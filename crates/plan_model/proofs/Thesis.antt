@@ -1,14 +1,13 @@
 -- Who is on time by (ii) is on time by the thesis's count: its sequence stays at or below the fixed point of the other.
 use mathlib.Core.Path.{_≡_}
 use mathlib.Core.Bool.{true}
-use mathlib.Core.List.{List, map}
-use Prim.Native.Nat.{ℕ, _≤_, _<_}
+use mathlib.Core.List.{List}
+use Prim.Native.Nat.{ℕ, _≤_}
 use native.Mathlib.Nat.{mul-le-mul-right}
 use native.Mathlib.Omega.{arith}
-use lib.ListN.{length, getD}
-use Rattle.model.specs.Lists.{total, all}
+use lib.ListN.{getD}
+use Rattle.model.specs.Lists.{all}
 use Rattle.lists.proofs.Rounding.{up-rises}
-use Rattle.lists.proofs.Tests.{all-at}
 use Rattle.plan_model.specs.declared.Task.{Task}
 use Rattle.plan_model.specs.declared.Verdict.the-variants.{OnTime}
 use Rattle.plan_model.specs.Base.{largestCost, base}
@@ -16,7 +15,6 @@ use Rattle.plan_model.specs.Response.{share, others, next, responseFrom}
 use Rattle.plan_model.specs.Plan.{inRange, response, withFigures, figured}
 use Rattle.plan_model.specs.Thesis.{thesisShare, thesisNext, thesisResponse, ByThesis, OnTimeByThesis}
 use Rattle.plan_model.proofs.Releases.{releases-thesis}
-use Rattle.plan_model.proofs.Ranges.{in-range}
 use Rattle.plan_model.proofs.Sequence.{Rises, response-first, under, verdict-in-time, on-time-means}
 use Rattle.plan_model.proofs.Steps.{totals-rise, all-others, next-rises, next-from}
 use Rattle.plan_model.proofs.Meaning.{Done, done, planned-at}
