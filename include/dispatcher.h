@@ -192,7 +192,7 @@ extern "C" {
 /* A cost is 1 to so many ticks. A due-in is 1 to so many, and 0 stands for the default. */
 #define DISPATCHER_MAX_COST 6000
 #define DISPATCHER_MAX_DUE_IN 60000
-#define DISPATCHER_DEFAULT_DUE_IN 18000 /* half an hour */
+#define DISPATCHER_DEFAULT_DUE_IN 9000 /* a quarter of an hour */
 
 /* The last tick of the clock: some twelve years and eight months after the cabinet was opened. */
 #define DISPATCHER_LAST_TICK 4000000000u

@@ -297,6 +297,28 @@ static void counter_examples(void)
     declined("the order after 32", 10, 0);
 }
 
+/* Document 02, (iii): "a case on each side of 9,000", and "lodges that relied on 18,000 write it out". A1 has 841 ticks at speed 1. */
+static void sides_of_default(void)
+{
+    const uint16_t *costs = ROW(3000, 6000), *more = ROW(3001, 6000);
+    fresh_image(2);
+    order(DISPATCHER_FORMAT_A1, 0, 0, costs);
+    station(1, 2159, 1);
+    station(2, 5159, 1);
+    begin_after(1, 2);
+    record(after, 0, 1, 0, 9000, 6000, 1, RANKS(0), costs, costs);
+    accepted("a delay sum of 9,000, due-in 0", 1, 9000, 0);
+    fresh_image(2);
+    order(DISPATCHER_FORMAT_A1, 0, 0, more);
+    station(1, 2160, 1);
+    station(2, 5159, 1);
+    declined("a delay sum of 9,001, due-in 0", 11, -1);
+    due_in = 18000;
+    begin_after(1, 2);
+    record(after, 0, 1, 0, 18000, 6000, 1, RANKS(0), more, more);
+    accepted("a delay sum of 9,001, due-in 18,000", 1, 9001, 8999);
+}
+
 /* ---- the ends of what is not the format's ---- */
 
 static void ends_of_ranges(void)
@@ -493,6 +515,7 @@ int main(void)
     costs_too_large();
     each_cabinet();
     counter_examples();
+    sides_of_default();
     ends_of_ranges();
     lengths();
     images();

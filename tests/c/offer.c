@@ -115,6 +115,24 @@ static void eight_stations(void)
     accepted("N = 8, costs 6,000, due-in 48,000", 1, 48000, 0);
 }
 
+/* Document 02, (iii): "a case on each side of 9,000", and "lodges that relied on 18,000 write it out". The delay sum is 6,000 and the cost at station 1. */
+static void sides_of_default(void)
+{
+    const uint16_t *costs = ROW(3000, 6000), *more = ROW(3001, 6000);
+    fresh_image(2);
+    block(0, RANKS(0), costs);
+    begin_after(1, 2);
+    record(after, 0, 1, 0, 9000, 6000, 1, RANKS(0), costs, costs);
+    accepted("a delay sum of 9,000, due-in 0", 1, 9000, 0);
+    fresh_image(2);
+    block(0, RANKS(0), more);
+    declined("a delay sum of 9,001, due-in 0", 11, -1);
+    block(18000, RANKS(0), more);
+    begin_after(1, 2);
+    record(after, 0, 1, 0, 18000, 6000, 1, RANKS(0), more, more);
+    accepted("a delay sum of 9,001, due-in 18,000", 1, 9001, 8999);
+}
+
 static void full_cabinet(void)
 {
     /* "N = 1, 32 orders of cost 1, due-in 60,000; the next gets 10". After k of them each has the sum k. */
@@ -379,6 +397,7 @@ int main(void)
     two_orders();
     one_station();
     eight_stations();
+    sides_of_default();
     full_cabinet();
     of_another_history();
     last_station();

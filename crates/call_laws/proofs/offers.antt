@@ -7,3 +7,4 @@ pub mod Accept
 pub mod Bounds
 pub mod Exact
 pub mod Kept
+pub mod DefaultDueIn

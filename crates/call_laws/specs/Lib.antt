@@ -4,6 +4,7 @@ pub mod OpenExact
 pub mod Considered
 pub mod OfferExact
 pub mod OfferKept
+pub mod DefaultDueIn
 -- What holds of every offer and quote by paper format.
 pub mod FormatExact
 -- What holds of every advance.

@@ -1,4 +1,4 @@
-// Document 01's worked cases, and one of document 02, (i), made by the calls themselves, a line for each call. The stored output
+// Document 01's worked cases, and those of document 02, (i) and (iii), made by the calls themselves, a line for each call. The stored output
 // is written by hand from the papers' figures, and no program made it. This one only makes the calls and writes: what it prints of a reply is
 // `replyLine` of the crate `trials`, of an image `explained` of the crate `image_text`, and of a table `planOutput` of the
 // crate `plan_model`.
@@ -156,6 +156,21 @@ fn largest_costs() {
     offer(&mut image, largest(48000));
 }
 
+// An order for two stations, with 6,000 at the second.
+fn pair(due_in: u32, cost: u16) -> [u8; BLOCK_SIZE] {
+    order_block(due_in, [0; 8], [cost, 6000, 0, 0, 0, 0, 0, 0])
+}
+
+// "the workshop needs a case on each side of 9,000": the delay sum is 6,000 + the cost at the first station. "lodges that relied
+// on 18,000 write it out": beside an order that was accepted the second would make that one late.
+fn side_of_default(cost: u16) {
+    let mut image = [0u8; IMAGE_SIZE];
+    open(&mut image, 2);
+    quote(&image, pair(0, cost));
+    offer(&mut image, pair(0, cost));
+    offer(&mut image, pair(18000, cost));
+}
+
 fn offers(image: &mut [u8; IMAGE_SIZE], order: [u8; BLOCK_SIZE], times: u32) {
     let mut i = 0;
     while i < times {
@@ -216,9 +231,19 @@ fn other_cases() {
     one_station();
     io::write_all(
         1,
-        b"eight stations, costs 6000, due in 18000 and in 48000\n",
+        b"eight stations, costs 6000, no due-in, then due in 47999 and in 48000\n",
     );
     largest_costs();
+    io::write_all(
+        1,
+        b"two stations, costs 3000 and 6000, no due-in, then due in 18000\n",
+    );
+    side_of_default(3000);
+    io::write_all(
+        1,
+        b"two stations, costs 3001 and 6000, no due-in, then due in 18000\n",
+    );
+    side_of_default(3001);
     io::write_all(
         1,
         b"one station, 33 orders of cost 1 due in 60000, an advance, one more\n",

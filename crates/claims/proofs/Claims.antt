@@ -8,6 +8,7 @@ use Rattle.plan_model.proofs.Leaves.{leaves, not-read}
 use Rattle.call_laws.proofs.opens.Exact.{opens-fresh}
 use Rattle.call_laws.proofs.offers.Exact.{exact}
 use Rattle.call_laws.proofs.offers.Kept.{offer-keeps-sound, quote-gives-offer, format-quote-gives-offer}
+use Rattle.call_laws.proofs.offers.DefaultDueIn.{zero-stands-for-default}
 use Rattle.call_laws.proofs.formats.Exact.{format-as-block}
 use Rattle.call_laws.proofs.advances.Exact.{advance-numbers}
 use Rattle.call_laws.proofs.advances.Kept.{advance-keeps-sound}
@@ -31,6 +32,7 @@ claims =
       format-as-block = format-as-block;
       format-quote-gives-offer = format-quote-gives-offer;
       long-sides = long-sides-halve;
+      default-due-in = zero-stands-for-default;
       ticks = ticks;
       ticks-over-runs = after-every-list TicksAsAsked ticks-of;
       timely = timely;

@@ -6,8 +6,10 @@ use Prim.Native.Nat.{ℕ, suc}
 use Rattle.model.specs.Table.{Row, Held, held, AllHold, EachFrom}
 use Rattle.model.specs.Cases.{paperCases}
 use Rattle.model.specs.FormatCases.{formatCases}
+use Rattle.model.specs.DefaultCases.{defaultCases}
 use Rattle.model.proofs.Cases.{paper-cases-hold}
 use Rattle.model.proofs.FormatCases.{format-cases-hold}
+use Rattle.model.proofs.DefaultCases.{default-cases-hold}
 use Rattle.plan_model.specs.Cases.{Printing, isPrinted, paperTables, insideTables}
 use Rattle.plan_model.proofs.Cases.{paper-tables-hold, inside-tables-hold}
 use Rattle.claims.specs.WorkedCases.{Case, ofCalls, ofPlan, EachHolds, paperTable, WorkedCases}
@@ -15,23 +17,37 @@ use Rattle.claims.specs.WorkedCases.{Case, ofCalls, ofPlan, EachHolds, p
 is-true : (k : ℕ) (b : Bool) → Held k b → b ≡ true
 is-true k b (held j) = refl
 
-plans : (k : ℕ) (tables : List Printing) → EachFrom isPrinted k tables → EachHolds (map ofPlan tables)
-plans k [] h = tt
-plans k (t ∷ tables) h = (is-true k (isPrinted t) (h .0), plans (suc k) tables (h .1))
+each-prints : (k : ℕ) (tables : List Printing) → EachFrom isPrinted k tables → EachHolds (map ofPlan tables)
+each-prints k [] h = tt
+each-prints k (t ∷ tables) h = (is-true k (isPrinted t) (h .0), each-prints (suc k) tables (h .1))
 
-calls : (cases : List (List Row)) → AllHold cases → EachHolds (map ofCalls cases)
-calls [] h = tt
-calls (rows ∷ cases) h = (h .0, calls cases (h .1))
+each-holds : (cases : List (List Row)) → AllHold cases → EachHolds (map ofCalls cases)
+each-holds [] h = tt
+each-holds (rows ∷ cases) h = (h .0, each-holds cases (h .1))
 
-together : (a b : List Case) → EachHolds a → EachHolds b → EachHolds (a ++ b)
-together [] b p q = q
-together (case ∷ a) b p q = (p .0, together a b (p .1) q)
+append-holds : (a b : List Case) → EachHolds a → EachHolds b → EachHolds (a ++ b)
+append-holds [] b p q = q
+append-holds (case ∷ a) b p q = (p .0, append-holds a b (p .1) q)
+
+-- A table that holds: of calls, of plan, and one after another.
+abbrev Holding : Type 0
+Holding = (table : List Case) × EachHolds table
+
+abbrev calls : (cases : List (List Row)) → AllHold cases → Holding
+calls cases h = (map ofCalls cases, each-holds cases h)
+
+abbrev plans : (tables : List Printing) → EachFrom isPrinted 1 tables → Holding
+plans tables h = (map ofPlan tables, each-prints 1 tables h)
+
+infixl 20 _and_
+abbrev _and_ : Holding → Holding → Holding
+a and b = (a .0 ++ b .0, append-holds (a .0) (b .0) (a .1) (b .1))
 
 pub worked-cases-hold : WorkedCases
 unfolding paperTable
 worked-cases-hold =
-    together (map ofCalls paperCases ++ map ofPlan paperTables ++ map ofCalls formatCases) (map ofPlan insideTables)
-    (together (map ofCalls paperCases ++ map ofPlan paperTables) (map ofCalls formatCases)
-    (together (map ofCalls paperCases) (map ofPlan paperTables) (calls paperCases paper-cases-hold) (plans 1 paperTables paper-tables-hold))
-    (calls formatCases format-cases-hold))
-    (plans 1 insideTables inside-tables-hold)
+    (calls paperCases paper-cases-hold
+    and plans paperTables paper-tables-hold
+    and calls formatCases format-cases-hold
+    and plans insideTables inside-tables-hold
+    and calls defaultCases default-cases-hold) .1

@@ -15,6 +15,7 @@ use Rattle.plan_model.specs.Cases.{isPrinted, chapterSix, isThesisRow, thesisRo
 use Rattle.call_laws.specs.OpenExact.{OpensFresh}
 use Rattle.call_laws.specs.OfferExact.{Exact}
 use Rattle.call_laws.specs.OfferKept.{OfferKeepsSound, QuoteGivesOffer, FormatQuoteGivesOffer}
+use Rattle.call_laws.specs.DefaultDueIn.{ZeroStandsForDefault}
 use Rattle.call_laws.specs.FormatExact.{FormatAsBlock}
 use Rattle.call_laws.specs.AdvanceExact.{AdvanceNumbers}
 use Rattle.call_laws.specs.AdvanceKept.{AdvanceKeepsSound}
@@ -40,6 +41,8 @@ pub record Claims : Type 0 where
   pub format-quote-gives-offer : FormatQuoteGivesOffer
   -- The rule of ISO 216, in the table of long sides.
   pub long-sides : LongSidesHalve
+  -- Document 02, (iii): "Due-in 0 is to stand for 9,000 ticks. Quote, offer and format orders follow."
+  pub default-due-in : ZeroStandsForDefault
   -- "demand 2's starts": the course of each tick, when an order may start first, and the way of each order, of every image of bytes and after every list of calls.
   pub ticks : OfEveryImage TicksAsAsked
   pub ticks-over-runs : AfterEveryList TicksAsAsked

@@ -5,6 +5,7 @@ use mathlib.Core.List.{List, [], _∷_, _++_, map}
 use Rattle.model.specs.Table.{Row, Hold}
 use Rattle.model.specs.Cases.{paperCases}
 use Rattle.model.specs.FormatCases.{formatCases}
+use Rattle.model.specs.DefaultCases.{defaultCases}
 use Rattle.plan_model.specs.Cases.{Printing, isPrinted, paperTables, insideTables}
 
 pub data Case : Type 0 where
@@ -22,7 +23,7 @@ EachHolds [] = Unit {0}
 EachHolds (case ∷ later) = CaseHolds case × EachHolds later
 
 unfoldable pub paperTable : List Case
-paperTable = map ofCalls paperCases ++ map ofPlan paperTables ++ map ofCalls formatCases ++ map ofPlan insideTables
+paperTable = map ofCalls paperCases ++ map ofPlan paperTables ++ map ofCalls formatCases ++ map ofPlan insideTables ++ map ofCalls defaultCases
 
 abbrev pub WorkedCases : Type 0
 WorkedCases = EachHolds paperTable

@@ -4,11 +4,12 @@ use Rattle.model.specs.Formats.{halving, LongSidesHalve}
 use Rattle.model.specs.Table.{held, Hold, AllHold}
 use Rattle.model.specs.Cases.{X, accepts, advances}
 use Rattle.model.specs.FormatCases.{sheetOf, byFormat, takes, tooLate, refuses, tells, twoStations, firstTwoByFormat, lateByFormat, told, tenFormats, formatNumbers, formatCases}
-use Rattle.model.proofs.FirstCase.{after, first-two-hold}
+use Rattle.model.proofs.FirstCase.{after}
+use Rattle.model.proofs.DefaultCases.{sides-by-format-hold}
 
 first-two-by-format-hold : Hold firstTwoByFormat
 unfolding Hold twoStations byFormat takes tells advances firstTwoByFormat
-first-two-by-format-hold = after first-two-hold (held 1, (held 2, (held 3, (held 4, (held 5, (held 6, (held 7, (held 8, (held 9, (held 10, (held 11, (held 12, (held 13, (held 14, (held 15, (held 16, (held 17, (held 18, (held 19, (held 20, (held 21, (held 22, (held 23, tt)))))))))))))))))))))))
+first-two-by-format-hold = after sides-by-format-hold (held 1, (held 2, (held 3, (held 4, (held 5, (held 6, (held 7, (held 8, (held 9, (held 10, (held 11, (held 12, (held 13, (held 14, (held 15, (held 16, (held 17, (held 18, (held 19, (held 20, (held 21, (held 22, (held 23, tt)))))))))))))))))))))))
 
 late-by-format-hold : Hold lateByFormat
 unfolding Hold X accepts twoStations byFormat takes tooLate lateByFormat

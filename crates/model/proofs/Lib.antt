@@ -1,3 +1,4 @@
 pub mod FirstCase
+pub mod DefaultCases
 pub mod FormatCases
 pub mod Cases

@@ -121,10 +121,10 @@ oneStation =
     ∷ advances 0 1 ∷ serving (1 ∷ []) (3 ∷ []) ∷ advances 0 2 ∷ advances 0 3 ∷ advances 1 4 ∷ outs (4 ∷ []) ∷ bounds (4 ∷ []) ∷ inStep
     ∷ []
 
--- "N = 8, all costs 6,000: delay sum 48,000; due-in 0 gets 11."
+-- "N = 8, all costs 6,000: delay sum 48,000; due-in 0 gets 11." Document 02, (iii): "Eight costs of 6,000 are still declined".
 unfoldable pub eightStations : List Row
 eightStations =
-    opens 8 ∷ late (order 0 0 (replicate 8 6000)) 11 (minus 30000) ∷ late (order 47999 0 (replicate 8 6000)) 11 (minus 1)
+    opens 8 ∷ late (order 0 0 (replicate 8 6000)) 11 (minus 39000) ∷ late (order 47999 0 (replicate 8 6000)) 11 (minus 1)
     ∷ opens 8 ∷ accepts (order 48000 0 (replicate 8 6000)) 1 48000 (pos 0) ∷ bounds (48000 ∷ []) ∷ inStep
     ∷ []
 
@@ -227,7 +227,7 @@ noStartSkipped =
 -- The default due-in, and "Due tick = tick of acceptance + due-in."
 unfoldable pub defaultInUse : List Row
 defaultInUse =
-    opens 2 ∷ accepts (X 0 0) 1 5 (pos 17995) ∷ advances 0 1 ∷ accepts (Y 0 5) 2 8 (pos 17993) ∷ dues (18000 ∷ 18001 ∷ []) ∷ inStep ∷ []
+    opens 2 ∷ accepts (X 0 0) 1 5 (pos 8995) ∷ advances 0 1 ∷ accepts (Y 0 5) 2 8 (pos 8993) ∷ dues (9000 ∷ 9001 ∷ []) ∷ inStep ∷ []
 
 -- "the smallest margin over newcomer and live orders", here the second order's of up to five; one tick more and it is late.
 unfoldable pub smallestOfMany : List Row
@@ -280,15 +280,15 @@ orderBlocks =
     ∷ quotes (X 60000 0) 5 (pos 59995) ∷ quotes (order 60000 255 (6000 ∷ 6000 ∷ [])) 12000 (pos 48000) ∷ inStep
     ∷ []
 
--- Question 8: a due tick of 4,000,000,000 is the last. The clock is 3,999,999,980; then 3,999,982,000, for the default. 7 goes before 8, and 8 before 9.
+-- Question 8: a due tick of 4,000,000,000 is the last. The clock is 3,999,999,980; then 3,999,991,000, for the default. 7 goes before 8, and 8 before 9.
 unfoldable pub lastDueTick : List Row
 lastDueTick =
     opens 2 ∷ written clockAt (236 ∷ 39 ∷ 107 ∷ 238 ∷ [])
     ∷ declines (X 21 0) 8 ∷ declines (X 0 0) 8 ∷ declines (X 60001 0) 7 ∷ altered nextAt (0 ∷ []) (offering (X 21 0)) 8 zeros
     ∷ accepts (X 20 0) 1 3999999985 (pos 15) ∷ holding (inFirst acceptedAt) (236 ∷ 39 ∷ 107 ∷ 238 ∷ 0 ∷ 40 ∷ 107 ∷ 238 ∷ [])
     ∷ altered (inFirst dueAt) (1 ∷ 40 ∷ 107 ∷ 238 ∷ []) advancing 4 zeros ∷ advances 0 3999999981
-    ∷ opens 2 ∷ written clockAt (176 ∷ 225 ∷ 106 ∷ 238 ∷ []) ∷ quotes (X 0 0) 3999982005 (pos 17995)
-    ∷ altered clockAt (177 ∷ 225 ∷ 106 ∷ 238 ∷ []) (quoting (X 0 0)) 8 zeros
+    ∷ opens 2 ∷ written clockAt (216 ∷ 4 ∷ 107 ∷ 238 ∷ []) ∷ quotes (X 0 0) 3999991005 (pos 8995)
+    ∷ altered clockAt (217 ∷ 4 ∷ 107 ∷ 238 ∷ []) (quoting (X 0 0)) 8 zeros
     ∷ []
 
 -- Question 13: the clock reaches 4,000,000,000 and stays there. 4 goes before 13.

@@ -61,7 +61,7 @@ lateByFormat =
     ∷ opens 2 ∷ accepts (X 20 0) 1 5 (pos 15) ∷ takes (byFormat 5 7 5 twoStations) 2 7 (pos 0) ∷ inStep
     ∷ []
 
--- One station, no fixed ticks, 1 mm per tick: the cost is the long side, and so is the delay bound. And 0 stands for the due-in of 18,000.
+-- One station, no fixed ticks, 1 mm per tick: the cost is the long side, and so is the delay bound. And 0 stands for the due-in of 9,000.
 unfoldable pub told : ℕ → ℕ → Row
 unfolding byFormat sheetOf tells
 told format side = tells (byFormat format 2000 0 (sheetOf [] (1 ∷ []))) side (pos (2000 - side))
@@ -70,7 +70,7 @@ unfoldable pub tenFormats : List Row
 unfolding told
 tenFormats =
     opens 1 ∷ told 1 841 ∷ told 2 594 ∷ told 3 420 ∷ told 4 297 ∷ told 5 210 ∷ told 6 1000 ∷ told 7 707 ∷ told 8 500 ∷ told 9 353 ∷ told 10 250
-    ∷ tells (byFormat 1 0 0 (sheetOf [] (1 ∷ []))) 841 (pos 17159)
+    ∷ tells (byFormat 1 0 0 (sheetOf [] (1 ∷ []))) 841 (pos 8159)
     ∷ []
 
 -- The numbers in their order, each where those after it fit as well: 5 for a sheet of 31 bytes and of 33, 19 for formats 0, 11 and 257, 20 for a speed of 0, 6 for

@@ -18,3 +18,4 @@ pub mod Runs
 pub mod Table
 pub mod Cases
 pub mod FormatCases
+pub mod DefaultCases

@@ -1,4 +1,4 @@
--- The figures of document 01, each named once.
+-- The figures of documents 01 and 02, each named once.
 use Prim.Native.Nat.{ℕ}
 
 -- "A cabinet has N stations, 1 to 8"
@@ -9,12 +9,13 @@ maxStations = 8
 abbrev pub maxCost : ℕ
 maxCost = 6000
 
--- "Its due-in is 1 to 60,000 ticks; 0 stands for 18,000."
+-- "Its due-in is 1 to 60,000 ticks"
 abbrev pub maxDueIn : ℕ
 maxDueIn = 60000
 
+-- Document 02, (iii): "Due-in 0 is to stand for 9,000 ticks."
 abbrev pub defaultDueIn : ℕ
-defaultDueIn = 18000
+defaultDueIn = 9000
 
 -- "At most 32 orders are live."
 abbrev pub maxLive : ℕ

@@ -4,14 +4,14 @@ use mathlib.Core.Path.{_≡_, refl, ap}
 use mathlib.Core.Logic.{_≢_, inl, inr, ⊎-elim}
 use mathlib.Core.Bool.{true}
 use mathlib.Core.List.{List, [], _∷_, _++_}
-use Prim.Native.Nat.{ℕ, zero, suc, _/_, _≤_, _<_}
+use Prim.Native.Nat.{ℕ, zero, suc, _+_, _/_, _≤_, _<_}
 use native.Mathlib.Omega.{arith}
 use lib.ListN.{length, take, drop, replicate}
 use lib.Dec.{eqb}
 use borrow.Author.Tests.{eqb-true, eqb-false, leb-true}
 use Rattle.model.specs.Lists.{at, part}
 use Rattle.model.specs.Bytes.{word}
-use Rattle.model.specs.Layout.{clockAt, nextAt, replyTickAt, replyMarginAt}
+use Rattle.model.specs.Layout.{clockAt, nextAt, recordsAt, recordSize, dueAt, replyTickAt, replyMarginAt}
 use Rattle.model.specs.Admission.{blockBytes}
 use Rattle.model.specs.Formats.{FormatOrder, speeds, formatCost, longSides, formatBlock, halving}
 use Rattle.model.specs.Calls.{Result, offerCall, quoteCall, quotingFormat, offeringFormat, formatNumber, offerFormatCall, quoteFormatCall}
@@ -22,6 +22,7 @@ use Rattle.model.specs.FormatCases.{sheetOf, byFormat, twoStations}
 use Rattle.lists.proofs.Tests.{and-both}
 use Rattle.image_laws.specs.Usable.{Usable}
 use Rattle.call_laws.specs.OfferKept.{QuotedAs}
+use Rattle.call_laws.specs.DefaultDueIn.{StandsFor}
 use Rattle.call_laws.specs.FormatExact.{Readable, Writable, FormatAt}
 use Rattle.claims.specs.ByHistory.{Judged}
 use Rattle.claims.proofs.Claims.{claims}
@@ -56,6 +57,10 @@ at-one f = claims .format-as-block (one .image) f someReply
 -- A5 with due-in 7 and rank 5 is Y: offered and quoted, the calls are those on Y's 28 bytes.
 abbrev asY : ℕ → FormatOrder
 asY dueIn = byFormat 5 dueIn 5 twoStations
+
+-- B1 has costs 4 and 5.
+abbrev asB1 : ℕ → FormatOrder
+asB1 dueIn = byFormat 6 dueIn 0 twoStations
 
 one-as-block : (offerFormatCall (one .image) (asY 7) someReply ≡ offerCall (one .image) (Y 7 5) someReply) × (quoteFormatCall (one .image) (asY 7) someReply ≡ quoteCall (one .image) (Y 7 5) someReply)
 unfolding readRow opened oneCalls one X Y byFormat twoStations started afterCall outcome afterAll blockBytes
@@ -100,7 +105,7 @@ unfolding readRow opened oneCalls one X Y byFormat twoStations started afterCall
 one-considered = (
   figures 2 (asY 7) (omega arith) (at-one (asY 7) .considered (inl refl)),
   figures 2 (asY 6) (omega arith) (at-one (asY 6) .considered (inr (inl refl))),
-  figures 2 (byFormat 6 100 0 twoStations) (omega arith) (at-one (byFormat 6 100 0 twoStations) .considered (inr (inr refl))),
+  figures 2 (asB1 100) (omega arith) (at-one (asB1 100) .considered (inr (inr refl))),
 )
 
 -- 1 and 2: a reply of 15 bytes, an image of 2,127.
@@ -187,6 +192,22 @@ format-quote-unheard : Bytes (replicate 15 238)
 unfolding readRow opened oneCalls one X Y byFormat twoStations started afterCall outcome afterAll
 format-quote-unheard = claims .format-quote-gives-offer (one .image) (asY 7) (lent 15) .unheard refl
 
+-- Due-in 0 is 9,000 written out by format, too: of A5, which is done, and of B1, which would delay X.
+format-zero : StandsFor (one .image) someReply
+format-zero = claims .default-due-in (one .image) someReply
+
+format-zero-offered : (offerFormatCall (one .image) (asY 0) someReply ≡ offerFormatCall (one .image) (asY 9000) someReply) × Figure 0 × Bytes (replicate 4 0 ++ (2 ∷ 0 ∷ 0 ∷ 0 ∷ 8 ∷ 0 ∷ 0 ∷ 0 ∷ 2 ∷ 0 ∷ 0 ∷ 0 ∷ [])) × Bytes (41 ∷ 35 ∷ 0 ∷ 0 ∷ [])
+unfolding readRow opened oneCalls one X Y byFormat twoStations started afterCall outcome afterAll
+format-zero-offered =
+    let same = format-zero .format-offers (asY 7) in
+    (same, ap (λ (r : Result). r .number) same, ap (λ (r : Result). r .reply) same, ap (λ (r : Result). part (r .image) (recordsAt + recordSize + dueAt) 4) same)
+
+format-zero-quoted : (quoteFormatCall (one .image) (asB1 0) someReply ≡ quoteFormatCall (one .image) (asB1 9000) someReply) × Figure 12 × Bytes (12 ∷ replicate 11 0 ++ (253 ∷ 255 ∷ 255 ∷ 255 ∷ []))
+unfolding readRow opened oneCalls one X Y byFormat twoStations started afterCall outcome afterAll
+format-zero-quoted =
+    let same = format-zero .format-quotes (asB1 100) in
+    (same, ap (λ (r : Result). r .number) same, ap (λ (r : Result). r .reply) same)
+
 -- What declines leave: 19 of an offer, and 12 of a quote, all but the margin, which is judged below.
 format-offer-declined : Figure 1 × Figure 16 × Bytes (19 ∷ replicate 11 0) × Bytes (19 ∷ replicate 15 0)
 unfolding readRow opened oneCalls one X Y byFormat twoStations started afterCall outcome afterAll
@@ -197,14 +218,14 @@ format-offer-declined =
 format-quote-declined : Figure 1 × Figure 16 × Bytes (12 ∷ replicate 11 0)
 unfolding readRow opened oneCalls one X Y byFormat twoStations started afterCall outcome afterAll
 format-quote-declined =
-    let d = claims .declines (quotingFormat (byFormat 6 100 0 twoStations)) (one .image) someReply (eqb-false 12 0 refl) in
+    let d = claims .declines (quotingFormat (asB1 100)) (one .image) someReply (eqb-false 12 0 refl) in
     (ap (λ (image : List ℕ). word image clockAt) (d .image-left), d .reply-whole (eqb-false 12 1 refl), d .number-given (eqb-false 12 1 refl))
 
 -- B1 by its block: costs 4 and 5, and so 12.
 b1-block : Figure 12 × Figure 12
 unfolding readRow opened oneCalls one X Y byFormat twoStations started afterCall outcome afterAll blockBytes
 b1-block =
-    let a = at-one (byFormat 6 100 0 twoStations) in
+    let a = at-one (asB1 100) in
     let w = a .considered (inr (inr refl)) in
     (ap (λ (r : Result). r .number) (a .offers-as-block w), ap (λ (r : Result). r .number) (a .quotes-as-block w))
 
@@ -251,9 +272,6 @@ long-twenty =
 abbrev OfFormat : FormatOrder → Result → Type 0
 OfFormat f r = Judged (Readable 2 f) (one .history) (formatBlock 2 f) someReply r
 
-abbrev formatB1 : FormatOrder
-formatB1 = byFormat 6 100 0 twoStations
-
 readable-two : (format dueIn rank : ℕ) → 1 ≤ format → format ≤ 10 → Readable 2 (byFormat format dueIn rank twoStations)
 unfolding readRow byFormat twoStations
 readable-two format dueIn rank low high = record { sheet-whole = refl; known = (low, high); moving = of-two-stations _ (leb-true _ _ (refl {a = true})) (leb-true _ _ (refl {a = true})) }
@@ -275,25 +293,25 @@ unfolding readRow opened oneCalls one X Y byFormat twoStations started afterCall
 format-late-back r j = late-back (Readable 2 (asY 6)) (one .history) (formatBlock 2 (asY 6)) refl r j (considered (Readable 2 (asY 6)) (one .history) (formatBlock 2 (asY 6)) (readable-two 5 6 5 (omega arith) (omega arith)) (leb-true _ _ (refl {a = true})) (refl {a = true}) (refl {a = true}) (refl {a = true}) (leb-true _ _ (refl {a = true})) (leb-true _ _ (refl {a = true})) (leb-true _ _ (refl {a = true}))) (leb-true _ _ (refl {a = true}))
 
 -- B1 has costs 4 and 5: its bound is 13, it is due at 101, and X would have the bound 12.
-format-delaying : (r : Result) → OfFormat formatB1 r → r .number ≡ 12 → (Figure 16 × Readable 2 formatB1 × (1 ≤ 4) × (4 ≤ 6000) × (1 ≤ 5) × (5 ≤ 6000) × Figure 0 × Figure 0 × (100 ≤ 60000) × (101 ≤ 4000000000) × (1 < 32)) × (13 ≤ 101) × (9 < 12) × (part (r .reply) replyMarginAt 4 ≡ 253 ∷ 255 ∷ 255 ∷ 255 ∷ []) × (2 < 2147483648)
+format-delaying : (r : Result) → OfFormat (asB1 100) r → r .number ≡ 12 → (Figure 16 × Readable 2 (asB1 100) × (1 ≤ 4) × (4 ≤ 6000) × (1 ≤ 5) × (5 ≤ 6000) × Figure 0 × Figure 0 × (100 ≤ 60000) × (101 ≤ 4000000000) × (1 < 32)) × (13 ≤ 101) × (9 < 12) × (part (r .reply) replyMarginAt 4 ≡ 253 ∷ 255 ∷ 255 ∷ 255 ∷ []) × (2 < 2147483648)
 unfolding readRow opened oneCalls one X Y byFormat twoStations started afterCall outcome afterAll
-format-delaying r j = delaying (Readable 2 formatB1) (one .history) (formatBlock 2 formatB1) refl r j (omega arith) (leb-true _ _ (refl {a = true}))
+format-delaying r j = delaying (Readable 2 (asB1 100)) (one .history) (formatBlock 2 (asB1 100)) refl r j (omega arith) (leb-true _ _ (refl {a = true}))
 
-format-delaying-back : (r : Result) → OfFormat formatB1 r → r .number ≡ 12
+format-delaying-back : (r : Result) → OfFormat (asB1 100) r → r .number ≡ 12
 unfolding readRow opened oneCalls one X Y byFormat twoStations started afterCall outcome afterAll
-format-delaying-back r j = delaying-back (Readable 2 formatB1) (one .history) (formatBlock 2 formatB1) refl r j (considered (Readable 2 formatB1) (one .history) (formatBlock 2 formatB1) (readable-two 6 100 0 (omega arith) (omega arith)) (leb-true _ _ (refl {a = true})) (refl {a = true}) (refl {a = true}) (refl {a = true}) (leb-true _ _ (refl {a = true})) (leb-true _ _ (refl {a = true})) (leb-true _ _ (refl {a = true}))) (leb-true _ _ (refl {a = true})) (leb-true _ _ (refl {a = true}))
+format-delaying-back r j = delaying-back (Readable 2 (asB1 100)) (one .history) (formatBlock 2 (asB1 100)) refl r j (considered (Readable 2 (asB1 100)) (one .history) (formatBlock 2 (asB1 100)) (readable-two 6 100 0 (omega arith) (omega arith)) (leb-true _ _ (refl {a = true})) (refl {a = true}) (refl {a = true}) (refl {a = true}) (leb-true _ _ (refl {a = true})) (leb-true _ _ (refl {a = true})) (leb-true _ _ (refl {a = true}))) (leb-true _ _ (refl {a = true})) (leb-true _ _ (refl {a = true}))
 
 format-quotes : Figure 0 × Figure 11 × Figure 12
 unfolding readRow opened oneCalls one X Y byFormat twoStations started afterCall outcome afterAll
 format-quotes =
     let of = one-in-step .format-quotes in
-    (format-taken-back _ (of (asY 7) someReply), format-late-back _ (of (asY 6) someReply), format-delaying-back _ (of formatB1 someReply))
+    (format-taken-back _ (of (asY 7) someReply), format-late-back _ (of (asY 6) someReply), format-delaying-back _ (of (asB1 100) someReply))
 
 format-offers : Figure 0 × Figure 11 × Figure 12
 unfolding readRow opened oneCalls one X Y byFormat twoStations started afterCall outcome afterAll
 format-offers =
     let of = one-in-step .format-offers in
-    (format-taken-back _ (of (asY 7) someReply), format-late-back _ (of (asY 6) someReply), format-delaying-back _ (of formatB1 someReply))
+    (format-taken-back _ (of (asY 7) someReply), format-late-back _ (of (asY 6) someReply), format-delaying-back _ (of (asB1 100) someReply))
 
 -- What the next call by format never returns: an offer that is done, a quote that is late.
 format-never : (_≢_ {A = ℕ} 0 2) × (_≢_ {A = ℕ} 11 9)

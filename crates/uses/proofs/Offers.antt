@@ -6,7 +6,7 @@ use mathlib.Core.Bool.{true, false, _&&_}
 use mathlib.Core.List.{List, [], _∷_, _++_, map, List·Memᴰ·head}
 use Prim.Native.Nat.{ℕ, _+_, _≤_, _<_}
 use native.Mathlib.Omega.{arith}
-use lib.ListN.{length, getD, take, replicate}
+use lib.ListN.{length, getD, take, drop, replicate}
 use lib.Dec.{leb, ltb}
 use lib.IntN.{ℤ, pos}
 use lib.Signed.{mag, ltZ}
@@ -16,14 +16,14 @@ use Rattle.model.specs.Limits.{maxLive, maxDueIn, lastTick}
 use Rattle.model.specs.Lists.{at, part}
 use Rattle.model.specs.Bytes.{word, fourBytes, bits32}
 use Rattle.model.specs.State.{State}
-use Rattle.model.specs.Layout.{clockAt, blockSize, replyTickAt, replyMarginAt}
+use Rattle.model.specs.Layout.{clockAt, recordsAt, recordSize, dueAt, blockSize, replyTickAt, replyMarginAt}
 use Rattle.model.specs.Image.{marked, decode}
 use Rattle.model.specs.Soundness.{costsInRange, zeroBeyond, sound}
 use Rattle.model.specs.Admission.{blockOf, dueOf, arrival, joinedBy, joinedLive}
-use Rattle.model.specs.Calls.{offerNumber, quoteCall, offerCall, opening, quoting, offering, advancing}
+use Rattle.model.specs.Calls.{Result, offerNumber, quoteCall, offerCall, opening, quoting, offering, advancing}
 use Rattle.model.specs.Runs.{started, outcome, afterCall, afterAll}
 use Rattle.model.specs.Table.{readRow, lent}
-use Rattle.model.specs.Cases.{X, Y}
+use Rattle.model.specs.Cases.{order, X, Y}
 use Rattle.schedule.specs.Valid.{_∈_}
 use Rattle.image_laws.specs.InRange.{byteLimit, Below}
 use Rattle.image_laws.specs.Usable.{Usable}
@@ -31,6 +31,7 @@ use Rattle.call_laws.specs.OpenExact.{OpenedAt}
 use Rattle.call_laws.specs.Considered.{Considered}
 use Rattle.call_laws.specs.OfferExact.{boundTickOf, InTime, Late, marginOf, ExactAt}
 use Rattle.call_laws.specs.OfferKept.{QuotedAs}
+use Rattle.call_laws.specs.DefaultDueIn.{StandsFor}
 use Rattle.call_laws.proofs.offers.Questions.{fitting}
 use Rattle.claims.proofs.Claims.{claims}
 use Rattle.uses.specs.DefiniteLists.{someImage, someReply, opened, oneCalls, one, Z}
@@ -178,6 +179,33 @@ quote-gives = (quoted .same-number, ap (λ (image : List ℕ). word image clockA
 quote-unheard : Bytes (replicate 15 238)
 unfolding readRow opened oneCalls one X Y Z started afterCall outcome afterAll
 quote-unheard = claims .quote-gives-offer (one .image) (Y 7 5) (lent 15) .unheard refl
+
+-- ---- due-in 0 is 9,000 written out: of an offer that is done, of a quote that is late, and of blocks of 27 bytes
+zero : StandsFor (one .image) someReply
+zero = claims .default-due-in (one .image) someReply
+
+-- Costs 6,000 and 6,000: a delay bound of 12,003. X would have 12,003 as well, and is due at 9.
+abbrev heavy : ℕ → List ℕ
+heavy dueIn = order dueIn 0 (6000 ∷ 6000 ∷ [])
+
+-- Y comes to the bound 8 and X to 7, two ticks before it is due; Y is due at 1 + 9,000.
+zero-offered : (offerCall (one .image) (Y 0 5) someReply ≡ offerCall (one .image) (Y 9000 5) someReply) × Figure 0 × Bytes (replicate 4 0 ++ (2 ∷ 0 ∷ 0 ∷ 0 ∷ 8 ∷ 0 ∷ 0 ∷ 0 ∷ 2 ∷ 0 ∷ 0 ∷ 0 ∷ [])) × Bytes (41 ∷ 35 ∷ 0 ∷ 0 ∷ [])
+unfolding readRow opened oneCalls one X Y Z started afterCall outcome afterAll
+zero-offered =
+    let same = zero .offers (drop 4 (Y 0 5)) in
+    (same, ap (λ (r : Result). r .number) same, ap (λ (r : Result). r .reply) same, ap (λ (r : Result). part (r .image) (recordsAt + recordSize + dueAt) 4) same)
+
+zero-quoted : (quoteCall (one .image) (heavy 0) someReply ≡ quoteCall (one .image) (heavy 9000) someReply) × Figure 11 × Bytes (11 ∷ replicate 11 0 ++ (38 ∷ 209 ∷ 255 ∷ 255 ∷ []))
+unfolding readRow opened oneCalls one X Y Z order started afterCall outcome afterAll
+zero-quoted =
+    let same = zero .quotes (drop 4 (heavy 0)) in
+    (same, ap (λ (r : Result). r .number) same, ap (λ (r : Result). r .reply) same)
+
+zero-cut : Figure 5 × Figure 5
+unfolding readRow opened oneCalls one X Y Z started afterCall outcome afterAll
+zero-cut =
+    let rest = take 23 (drop 4 (Y 0 5)) in
+    (ap (λ (r : Result). r .number) (zero .offers rest), ap (λ (r : Result). r .number) (zero .quotes rest))
 
 -- ---- a done offer leaves a sound image that says the state with the arrival
 kept : Figure 2128 × (87 < 256) × Yes × Yes × Figure 3

@@ -10,7 +10,8 @@ use Rattle.model.specs.Formats.{FormatOrder}
 use Rattle.model.specs.Calls.{offering, quotingFormat, offeringFormat, advancing}
 use Rattle.model.specs.Table.{Row, opens, gives, serving, outs, bounds, inStep, Hold}
 use Rattle.model.specs.Cases.{order, X, Y, accepts, late, advances, firstTwo, lateArrival, lateLive, ranksReversed, startsAtTwo, oneStation, eightStations, paperCases}
-use Rattle.model.specs.FormatCases.{sheetOf, byFormat, takes, refuses, tells, twoStations, firstTwoByFormat, lateByFormat, told, tenFormats, formatNumbers, formatCases}
+use Rattle.model.specs.FormatCases.{sheetOf, byFormat, takes, tooLate, refuses, tells, twoStations, firstTwoByFormat, lateByFormat, told, tenFormats, formatNumbers, formatCases}
+use Rattle.model.specs.DefaultCases.{sidesOfDefault, sidesWithLive, sidesByFormat, defaultCases}
 use Rattle.text.specs.Ascii.{ascii}
 use Rattle.plan_model.specs.Cases.{_prints_, isPrinted}
 use Rattle.claims.specs.WorkedCases.{paperTable}
@@ -36,6 +37,11 @@ byFormats = let c = claims .worked-cases .1 .1 .1 .1 .1 .1 .1 .1 .1 in (c .0, c 
 inside : (isPrinted (ascii "1\n100 20 4\n10 5 2\n" prints ascii "task base response verdict\n1 4 6 on-time\n2 2 6 late\n") ≡ true) × (isPrinted (ascii "1\n100 20 4\n10 6 2\n" prints ascii "task base response verdict\n1 4 8 on-time\n2 2 6 late\n") ≡ true) × (isPrinted (ascii "1\n100 11 4\n1 1 1\n100 100 2\n" prints ascii "task base response verdict\n1 4 12 late\n2 1 1 late\n3 2 102 late\n") ≡ true) × (isPrinted (ascii "8\n60000 60000 5999 5999 5999 5999 5999 5999 5999 5999\n60000 60000 6000 6000 6000 6000 6000 6000 6000 1\n" prints ascii "task base response verdict\n1 47999 59999 on-time\n2 48000 59998 on-time\n") ≡ true)
 unfolding paperTable paperCases formatCases
 inside = let c = claims .worked-cases .1 .1 .1 .1 .1 .1 .1 .1 .1 .1 .1 .1 .1 in (c .0, c .1 .0, c .1 .1 .0, c .1 .1 .1 .0)
+
+-- ---- those of the default due-in
+byDefault : Hold sidesOfDefault × Hold sidesWithLive × Hold sidesByFormat
+unfolding paperTable paperCases formatCases defaultCases
+byDefault = let c = claims .worked-cases .1 .1 .1 .1 .1 .1 .1 .1 .1 .1 .1 .1 .1 .1 .1 .1 .1 in (c .0, c .1 .0, c .1 .1 .0)
 
 -- ---- their rows: an offer with its number, ticket, tick and margin; an advance with the ticket out and the clock
 abbrev rowAt : List Row → ℕ → Row
@@ -85,8 +91,8 @@ one-station : (rowAt oneStation 0 ≡ opens 1) × (rowAt oneStation 1 ≡ declin
 unfolding oneStation accepts late
 one-station = (refl, refl, refl)
 
--- "N = 8, all costs 6,000: delay sum 48,000; due-in 0 gets 11."
-eight-stations : (rowAt eightStations 0 ≡ opens 8) × (rowAt eightStations 1 ≡ declinedBy (order 0 0 (replicate 8 6000)) 11 29999) × (rowAt eightStations 4 ≡ offered (order 48000 0 (replicate 8 6000)) 1 48000 0) × (rowAt eightStations 5 ≡ bounds (48000 ∷ []))
+-- "N = 8, all costs 6,000: delay sum 48,000; due-in 0 gets 11." By 39,000 ticks, with document 02's default.
+eight-stations : (rowAt eightStations 0 ≡ opens 8) × (rowAt eightStations 1 ≡ declinedBy (order 0 0 (replicate 8 6000)) 11 38999) × (rowAt eightStations 4 ≡ offered (order 48000 0 (replicate 8 6000)) 1 48000 0) × (rowAt eightStations 5 ≡ bounds (48000 ∷ []))
 unfolding eightStations accepts late
 eight-stations = (refl, refl, refl, refl)
 
@@ -108,6 +114,26 @@ first-two-by-format = (refl, refl, refl)
 format-numbers : (rowAt formatNumbers 3 ≡ refusedFormat (byFormat 0 60001 0 (take 31 (sheetOf (65535 ∷ 1 ∷ []) (250 ∷ 0 ∷ [])))) 5) × (rowAt formatNumbers 8 ≡ refusedFormat (byFormat 257 60001 0 (sheetOf (65535 ∷ 1 ∷ []) (250 ∷ 0 ∷ []))) 19) × (rowAt formatNumbers 9 ≡ refusedFormat (byFormat 10 60001 0 (sheetOf (65535 ∷ 1 ∷ []) (250 ∷ 0 ∷ []))) 20) × (rowAt formatNumbers 12 ≡ refusedFormat (byFormat 3 60001 0 (sheetOf (1 ∷ 65535 ∷ []) (250 ∷ 250 ∷ []))) 6)
 unfolding formatNumbers refuses
 format-numbers = (refl, refl, refl, refl)
+
+-- Document 02, (iii): "the workshop needs a case on each side of 9,000", as blocks, beside a live order, and by format.
+default-lengths : (length sidesOfDefault ≡ 13) × (length sidesWithLive ≡ 9) × (length sidesByFormat ≡ 13)
+unfolding sidesOfDefault sidesWithLive sidesByFormat
+default-lengths = (refl, refl, refl)
+
+sides-of-default : (rowAt sidesOfDefault 0 ≡ opens 2) × (rowAt sidesOfDefault 2 ≡ offered (order 0 0 (3000 ∷ 6000 ∷ [])) 1 9000 0) × (rowAt sidesOfDefault 6 ≡ opens 2) × (rowAt sidesOfDefault 8 ≡ declinedBy (order 0 0 (3001 ∷ 6000 ∷ [])) 11 0) × (rowAt sidesOfDefault 9 ≡ offered (order 18000 0 (3001 ∷ 6000 ∷ [])) 1 9001 8999)
+unfolding sidesOfDefault accepts late
+sides-of-default = (refl, refl, refl, refl, refl)
+
+sides-with-live : (rowAt sidesWithLive 1 ≡ offered (order 0 0 (6000 ∷ [])) 1 6000 3000) × (rowAt sidesWithLive 2 ≡ declinedBy (order 0 0 (3001 ∷ [])) 11 0) × (rowAt sidesWithLive 3 ≡ declinedBy (order 18000 0 (3001 ∷ [])) 12 0) × (rowAt sidesWithLive 4 ≡ offered (order 0 0 (3000 ∷ [])) 2 9000 0)
+unfolding sidesWithLive accepts late
+sides-with-live = (refl, refl, refl, refl)
+
+abbrev ofA1 : ℕ → ℕ → FormatOrder
+ofA1 dueIn fixed = byFormat 1 dueIn 0 (sheetOf (fixed ∷ 5159 ∷ []) (1 ∷ 1 ∷ []))
+
+sides-by-format : (rowAt sidesByFormat 2 ≡ offeredFormat (ofA1 0 2159) 1 9000 0) × (rowAt sidesByFormat 8 ≡ gives (offeringFormat (ofA1 0 2160)) 11 (record { ticket = 0; tick = 0; margin = negsuc 0 })) × (rowAt sidesByFormat 9 ≡ offeredFormat (ofA1 18000 2160) 1 9001 8999)
+unfolding sidesByFormat takes tooLate
+sides-by-format = (refl, refl, refl)
 
 abbrev sideTold : ℕ → ℕ → ℕ → Row
 sideTold format side margin = gives (quotingFormat (byFormat format 2000 0 (sheetOf [] (1 ∷ [])))) 0 (record { ticket = 0; tick = side; margin = pos margin })
