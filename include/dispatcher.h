@@ -29,12 +29,16 @@
  *
  * An order is offered as a block of DISPATCHER_ORDER_SIZE bytes (28), numbers with the low byte first:
  *
- *     bytes  0 to  3   due-in: in how many ticks from now the order is due, 1 to DISPATCHER_MAX_DUE_IN; 0 stands for DISPATCHER_DEFAULT_DUE_IN
+ *     bytes  0 to  3   due-in: in how many ticks from now the order is due, 1 to DISPATCHER_MAX_DUE_IN; 0 stands for DISPATCHER_DEFAULT_DUE_IN ticks (9,000)
  *     bytes  4 to 11   eight ranks of 1 byte, for stations 1 to 8: of the orders that wait at a station the one with the smallest rank is served
  *                      first, and of equal ranks the one with the smaller ticket
  *     bytes 12 to 27   eight costs of 2 bytes, for stations 1 to 8: how many ticks the order takes there, 1 to DISPATCHER_MAX_COST
  *
  * Ranks and costs of stations that the cabinet does not have are 0.
+ *
+ * A due-in of 0 is for a customer who names no time. Quoted or offered, the order gets the reply, and leaves the image, that it does with the default written
+ * out. Where the default is too short, because the order has a larger delay sum (below), it is declined by DISPATCHER_LATE (11): a counter that grants its
+ * customers more time writes the due-in out.
  *
  * AN ORDER BY PAPER FORMAT
  *

@@ -1,5 +1,5 @@
 #!/usr/bin/env python3
-"""figures.py [ROOT]: the sizes, places and limits of document 01 agree wherever they are stated.
+"""figures.py [ROOT]: the sizes, places and limits of documents 01 and 02 agree wherever they are stated.
 
 The definitions (crates/model/specs) state them, and so do the code of the crates, the C headers, and the tests in Python and in Rust. A figure has the same
 name everywhere: `recordSize` of the definitions is RECORD_SIZE. Every figure of the definitions stands in each of the others, but for those of LACKS, with the
@@ -25,6 +25,9 @@ LACKS = {
     DEFINITIONS: {"REPLY_NUMBER_AT", "OTHER_IMAGE_SIZE"},
     CODE: {"OTHER_IMAGE_SIZE"},
 }
+
+# What due-in 0 stands for is said in words here.
+PAGES = ["README.md", "firmware/README.md"]
 
 # Where the bare figures are looked for, and what of it is left out: what others deliver, what is stored, and texts of the crates.
 FOLDERS = ["tests", "bench", "firmware", "include"]
@@ -69,7 +72,7 @@ def of_c(text, file):
             figures[name] = 2**32 - 1
         else:
             figures[name] = value if value.startswith("DISPATCHER_") else number(value, f"{file}, {name}")
-    for name, figure in re.findall(r"(DISPATCHER_\w+) bytes \(([\d,]+)\)", text):
+    for name, figure in re.findall(r"(DISPATCHER_\w+) (?:bytes|ticks) \(([\d,]+)\)", text):
         if figures[name] != int(figure.replace(",", "")):
             wrong.append(f"{file}: {name} is {figures[name]}, and {figure} in the words")
     return figures
@@ -114,6 +117,14 @@ def agree(root):
     return {name: value for name, (value, _) in right.items()}
 
 
+def in_words(root, figures):
+    """What due-in 0 stands for, on the pages for people."""
+    for page in PAGES:
+        said = re.findall(r"\b0[^.]*?\bstands for ([\d,]+) ticks", (root / page).read_text())
+        if [int(figure.replace(",", "")) for figure in said] != [figures["DEFAULT_DUE_IN"]]:
+            wrong.append(f"{page}: due-in 0 stands for {' and for '.join(said) or 'nothing'}, and DEFAULT_DUE_IN is {figures['DEFAULT_DUE_IN']}")
+
+
 def bare(root, figures):
     """How many files were looked at."""
     image, record, block, front = (figures[name] for name in ("IMAGE_SIZE", "RECORD_SIZE", "BLOCK_SIZE", "RECORDS_AT"))
@@ -139,6 +150,7 @@ def bare(root, figures):
 def main():
     root = Path(sys.argv[1] if len(sys.argv) > 1 else ".")
     figures = agree(root)
+    in_words(root, figures)
     looked_at = bare(root, figures)
     if wrong:
         sys.exit("\n".join(wrong))

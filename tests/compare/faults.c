@@ -147,6 +147,42 @@ static int overlooked(uint8_t *image)
     }
 }
 
+/* The due-in as the fault reads it, of a quote or an offer, as a block or by format, when the clock has a tick. */
+static uint32_t misread_due_in(uint32_t due_in, int offer, int by_format, uint32_t clock)
+{
+    int zero = due_in == 0;
+    switch (fault()) {
+    case 135: /* a block's due-in 0 stands for 18,000 ticks */
+        return zero && !by_format ? 18000 : due_in;
+    case 136: /* a format order's due-in 0 stands for 18,000 ticks */
+        return zero && by_format ? 18000 : due_in;
+    case 137: /* in a quote due-in 0 stands for 18,000 ticks */
+        return zero && !offer ? 18000 : due_in;
+    case 138: /* in an offer due-in 0 stands for 18,000 ticks */
+        return zero && offer ? 18000 : due_in;
+    case 139: /* due-in 0 stands for one tick less than the default */
+        return zero ? DEFAULT_DUE_IN - 1 : due_in;
+    case 140: /* a format order's due-in 0 stands for one tick more than the default */
+        return zero && by_format ? DEFAULT_DUE_IN + 1 : due_in;
+    case 141: /* due-in 0 is due at the next tick */
+        return zero ? 1 : due_in;
+    case 142: /* due-in 1 stands for the default, too */
+        return due_in == 1 ? 0 : due_in;
+    case 143: /* 18,000 ticks that are written out stand for the default */
+        return due_in == 18000 ? 0 : due_in;
+    case 144: /* the default is the largest due-in that counts */
+        return due_in > DEFAULT_DUE_IN && due_in <= MAX_DUE_IN ? DEFAULT_DUE_IN : due_in;
+    case 145: /* a due-in stands for the default if its low half is 0 */
+        return (due_in & 0xffff) == 0 ? 0 : due_in;
+    case 146: /* the default counts from tick 0 while the clock is below it */
+        return zero && clock < DEFAULT_DUE_IN ? DEFAULT_DUE_IN - clock : due_in;
+    case 147: /* near the clock's end due-in 0 stands for the ticks that are left */
+        return zero && clock > LAST_TICK - DEFAULT_DUE_IN && clock < LAST_TICK ? LAST_TICK - clock : due_in;
+    default:
+        return due_in;
+    }
+}
+
 /* The order as the fault reads it. */
 static void misread(uint8_t *order, unsigned n, uint32_t clock)
 {
@@ -208,6 +244,7 @@ static uint32_t ordered(int offer, uint8_t *image, size_t image_len, const uint8
         memcpy(read, order, BLOCK_SIZE);
         if (n <= MAX_STATIONS)
             misread(read, n, clock);
+        put4(read + BLOCK_DUE_IN_AT, misread_due_in(get4(read + BLOCK_DUE_IN_AT), offer, 0, clock));
     }
     const uint8_t *block = order_len == BLOCK_SIZE ? read : order;
     uint32_t number = right_offer(trial, IMAGE_SIZE, block, order_len, reply, REPLY_SIZE);
@@ -313,6 +350,21 @@ static uint32_t ordered(int offer, uint8_t *image, size_t image_len, const uint8
     case 67: /* a due tick of more than 31 bits is too far, while the clock has less */
         if ((number == 0 || number == 11 || number == 12) && clock < 0x80000000 && clock + due_in >= 0x80000000)
             number = declined(8, reply), accepted = 0;
+        break;
+    case 148: /* with due-in 0 the record has a due tick 18,000 ticks after the acceptance */
+        if (accepted && due_in == 0)
+            put4(record(trial, live) + DUE_AT, clock + 18000);
+        break;
+    case 149: /* with due-in 0 and a delay sum of the default an order is late */
+        if (number == 0 && due_in == 0 && get4(reply + REPLY_TICK_AT) == clock + DEFAULT_DUE_IN)
+            number = declined(11, reply), put4(reply + REPLY_MARGIN_AT, (uint32_t)margin), accepted = 0;
+        break;
+    case 150: /* with due-in 0 an order that is late by one is accepted */
+        if (number == 11 && due_in == 0 && margin == -1) {
+            put4(read + BLOCK_DUE_IN_AT, DEFAULT_DUE_IN + 1);
+            number = right_offer(trial, IMAGE_SIZE, read, BLOCK_SIZE, reply, REPLY_SIZE);
+            accepted = number == 0 && offer;
+        }
         break;
     case 37: /* question 5 is asked before question 4 */
         if (number == 4 && order_len != BLOCK_SIZE)
@@ -481,11 +533,13 @@ static uint32_t ordered_by_format(int offer, uint8_t *image, size_t image_len, u
                      : right_quote_format(image, image_len, format, due_in, rank, sheet, sheet_len, reply, reply_len);
     memcpy(trial, image, IMAGE_SIZE);
     unsigned n = image[STATION_COUNT_AT], live = image[LIVE_COUNT_AT];
+    uint32_t clock = get4(image + CLOCK_AT);
     int whole = sheet_len == SHEET_SIZE;
     if (whole) {
         memmove(read.sheet, sheet, SHEET_SIZE);
         if (n >= 1 && n <= MAX_STATIONS)
             misread_format(&read, n);
+        read.due_in = misread_due_in(read.due_in, offer, 1, clock);
     }
     const uint8_t *figures = whole ? read.sheet : sheet;
     uint32_t number = right_offer_format(trial, IMAGE_SIZE, read.format, read.due_in, read.rank, figures, sheet_len, reply, REPLY_SIZE);
@@ -583,6 +637,10 @@ static uint32_t ordered_by_format(int offer, uint8_t *image, size_t image_len, u
     case 118: /* after 19 the reply has the format behind the number */
         if (number == 19)
             put4(reply + REPLY_TICKET_AT, format);
+        break;
+    case 151: /* of a format order with due-in 0 and a delay sum of the default the margin is 1 */
+        if (number == 0 && due_in == 0 && get4(reply + REPLY_TICK_AT) == clock + DEFAULT_DUE_IN)
+            put4(reply + REPLY_MARGIN_AT, 1);
         break;
     case 119: /* the margin with which a format order is late is not told */
         if (number == 11)

@@ -147,6 +147,7 @@ impl Counts {
                 if due == u64::from(LAST_TICK) { self.edge("done, due at the last tick"); }
                 if due_in == MAX_DUE_IN { self.edge("done, due-in 60,000"); }
                 if due_in == 0 { self.edge("done, due-in 0"); }
+                if due_in == 0 && u64::from(get32(reply, REPLY_TICK_AT)) == due { self.edge("done, due-in 0, delay sum 9,000"); }
                 if costs().any(|c| c == MAX_COST) { self.edge("done, cost 6,000"); }
                 if costs().all(|c| c == 1) { self.edge("done, costs 1"); }
                 if offer && next == LAST_TICKET { self.edge("done, last ticket"); }
@@ -159,7 +160,10 @@ impl Counts {
             7 if due_in == MAX_DUE_IN + 1 => self.edge("7, due-in 60,001"),
             8 if due == u64::from(LAST_TICK) + 1 => self.edge("8, due one tick too late"),
             9 if usize::from(before[LIVE_COUNT_AT]) == MAX_LIVE => self.edge("9, and 32 live"),
-            11 if margin == -1 => self.edge("11, margin -1"),
+            11 if margin == -1 => {
+                self.edge("11, margin -1");
+                if due_in == 0 { self.edge("11, due-in 0, margin -1"); }
+            }
             12 if margin == -1 => self.edge("12, margin -1"),
             _ => {}
         }
@@ -167,7 +171,7 @@ impl Counts {
 
     fn format_order(&mut self, (format, due_in, rank, sheet): (u32, u32, u8, &[u8]), before: &[u8], number: u32, reply: &[u8]) {
         if number == 5 { return; }
-        let n = usize::from(before[STATION_COUNT_AT]);
+        let (n, clock) = (usize::from(before[STATION_COUNT_AT]), get32(before, CLOCK_AT));
         let (fixed, speed) = (|j| get16(sheet, fixed_at(j)), |j| get16(sheet, speed_at(j)));
         let any_speed_0 = || (0..n).any(|j| speed(j) == 0);
         // The costs, where there are any.
@@ -181,6 +185,7 @@ impl Counts {
                 if margin == 0 { self.edge("format, done, margin 0"); }
                 if due_in == MAX_DUE_IN { self.edge("format, done, due-in 60,000"); }
                 if due_in == 0 { self.edge("format, done, due-in 0"); }
+                if due_in == 0 && get32(reply, REPLY_TICK_AT) - clock == DEFAULT_DUE_IN { self.edge("format, done, due-in 0, delay sum 9,000"); }
                 if rank == 0 { self.edge("format, done, rank 0"); }
                 if rank == u8::MAX { self.edge("format, done, rank 255"); }
                 if costs().any(|c| c == most) { self.edge("format, done, cost 6,000"); }
@@ -214,7 +219,10 @@ impl Counts {
             }
             7 if due_in == MAX_DUE_IN + 1 => self.edge("format, 7, due-in 60,001"),
             7 if due_in == u32::MAX => self.edge("format, 7, due-in 4,294,967,295"),
-            11 if margin == -1 => self.edge("format, 11, margin -1"),
+            11 if margin == -1 => {
+                self.edge("format, 11, margin -1");
+                if due_in == 0 { self.edge("format, 11, due-in 0, margin -1"); }
+            }
             12 if margin == -1 => self.edge("format, 12, margin -1"),
             _ => {}
         }

@@ -177,14 +177,14 @@ pub fn aim_at(rng: &mut Rng, n: usize, live: usize) -> Aim {
 }
 
 impl Aim {
-    fn block(&self, due_in: u64) -> Vec<u8> {
+    fn block(&self, costs: &[u16], due_in: u64) -> Vec<u8> {
         let n = self.state.n;
-        block(level(), due_in as u32, &self.ranks[..n], &self.costs[..n], 0)
+        block(level(), due_in as u32, &self.ranks[..n], &costs[..n], 0)
     }
 
     /// The same by its format, with the rank of station 1 for all.
-    fn by_format(&self, rng: &mut Rng, due_in: u64) -> FormatOrder {
-        FormatOrder::of_costs(rng, &self.costs[..self.state.n], self.ranks[0], due_in as u32)
+    fn by_format(&self, rng: &mut Rng, costs: &[u16], due_in: u64) -> FormatOrder {
+        FormatOrder::of_costs(rng, &costs[..self.state.n], self.ranks[0], due_in as u32)
     }
 
     /// A due-in at an edge.
@@ -203,28 +203,54 @@ impl Aim {
         if due_in > most + 1 && !rng.one_in(20) { most } else { due_in }
     }
 
-    /// The order, with a due-in at an edge.
+    /// Costs by which the delay sum is the default due-in, or a tick beside it, if there are such: a largest cost at station N, and what is then wanting before it.
+    fn beside_default(&self, rng: &mut Rng) -> Option<[u16; MAX_STATIONS]> {
+        let (n, live) = (self.state.n, &self.state.live);
+        let there: Vec<u64> = (0..n - 1).map(|j| live.iter().map(|r| u64::from(r.costs[j])).max().unwrap_or(0).max(1)).collect();
+        let company = live.iter().map(|r| u64::from(r.largest_cost())).sum::<u64>() + there.iter().sum::<u64>();
+        let mut wanting = (u64::from(DEFAULT_DUE_IN) + rng.below(3)).checked_sub(1 + company)?;
+        let highest = wanting.min(MAX_COST.into());
+        if highest == 0 { return None; }
+        let largest = if n == 1 || rng.one_in(2) { highest } else { rng.range(1, highest) };
+        wanting -= largest;
+        let mut costs = [0; MAX_STATIONS];
+        costs[n - 1] = largest as u16;
+        for j in 0..n - 1 {
+            let more = wanting.min(largest.saturating_sub(there[j]));
+            costs[j] = if more > 0 { there[j] + more } else { there[j].min(largest) } as u16;
+            wanting -= more;
+        }
+        if wanting == 0 { Some(costs) } else { None }
+    }
+
+    /// Costs and a due-in at an edge: one in six with no due-in, and a delay sum beside the default.
+    fn at_an_edge(&self, rng: &mut Rng) -> ([u16; MAX_STATIONS], u64) {
+        let beside = if rng.one_in(6) { self.beside_default(rng) } else { None };
+        beside.map_or_else(|| (self.costs, self.due_in(rng)), |costs| (costs, 0))
+    }
+
+    /// The order, at an edge.
     pub fn order(&self, rng: &mut Rng) -> Vec<u8> {
-        let due_in = self.due_in(rng);
-        self.block(due_in)
+        let (costs, due_in) = self.at_an_edge(rng);
+        self.block(&costs, due_in)
     }
 
     /// The same by its format.
     pub fn format_order(&self, rng: &mut Rng) -> FormatOrder {
-        let due_in = self.due_in(rng);
-        self.by_format(rng, due_in)
+        let (costs, due_in) = self.at_an_edge(rng);
+        self.by_format(rng, &costs, due_in)
     }
 
     /// The order by its format, with one or two things at a limit or beyond it.
     pub fn odd_format_order(&self, rng: &mut Rng) -> FormatOrder {
-        let mut order = self.by_format(rng, MAX_DUE_IN.into());
+        let mut order = self.by_format(rng, &self.costs, MAX_DUE_IN.into());
         for _ in 0..rng.range(1, 2) { order.push(rng, self.state.n); }
         order
     }
 
     /// The order with one thing at a limit or beyond it.
     pub fn odd_order(&self, rng: &mut Rng) -> Vec<u8> {
-        let mut b = self.block(MAX_DUE_IN.into());
+        let mut b = self.block(&self.costs, MAX_DUE_IN.into());
         let n = self.state.n;
         let j = rng.below(n as u64) as usize;
         let (rank, cost) = (|j| BLOCK_RANKS_AT + j, |j| BLOCK_COSTS_AT + 2 * j);
