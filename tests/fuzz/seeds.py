@@ -14,8 +14,8 @@ from pathlib import Path
 
 sys.path.insert(0, str(Path(__file__).resolve().parent.parent))
 import layout
-from layout import (BLOCK_SIZE, IMAGE_SIZE, LAST_TICK, MAX_COST, MAX_DUE_IN, MAX_FORMAT, MAX_LIVE, MAX_STATIONS, REPLY_SIZE, SHEET_SIZE, block, record,
-                    service)
+from layout import (BLOCK_SIZE, DEFAULT_DUE_IN, IMAGE_SIZE, LAST_TICK, MAX_COST, MAX_DUE_IN, MAX_FORMAT, MAX_LIVE, MAX_STATIONS, REPLY_SIZE, SHEET_SIZE, block,
+                    record, service)
 from level import at_level
 
 SEED = 70000
@@ -134,12 +134,16 @@ def said(which, image, order, reply):
 
 
 def counter():
-    """Cabinets just opened: the counter examples of document 01, and orders at the edge of what is on time, at 1 to 8 stations."""
+    """Cabinets just opened: the counter examples of documents 01 and 02, and orders at the edge of what is on time, at 1 to 8 stations."""
     x, y = ([0, 0], [2, 3]), ([5, 5], [1, 2])
     yield 'x-then-y', head(FRESH, 2, x, y) + by_row(OFFER, 0, 20) + by_row(QUOTE, 1, 6) + by_row(OFFER, 1, 6) + by_row(OFFER, 1, 7) + advance(9)
     yield 'y-delays-x', head(FRESH, 2, x, y) + by_row(OFFER, 0, 6) + by_row(QUOTE, 1, 100) + by_row(OFFER, 1, 100) + advance(6)
     yield 'y-starts-later', head(FRESH, 2, x, ([0, 0], [1, 2])) + by_row(OFFER, 0, 20) + advance() + by_row(OFFER, 1, 7) + advance(8)
     yield 'eight-of-6000', head(FRESH, 8, ([0] * 8, [MAX_COST] * 8)) + by_row(OFFER, 0, 0) + by_row(OFFER, 0, 47999) + by_row(OFFER, 0, 48000) + advance(3)
+    # A delay sum of what due-in 0 stands for, and a tick more; then the latter with more time.
+    within, beyond = (([0, 0], [DEFAULT_DUE_IN - MAX_COST + more, MAX_COST]) for more in (0, 1))
+    yield 'default', (head(FRESH, 2, within, beyond) + by_row(QUOTE, 1, 0) + by_row(OFFER, 1, 0) + by_row(QUOTE, 0, 0) + by_row(OFFER, 0, 0) + opened(2) +
+                      by_row(OFFER, 1, 2 * DEFAULT_DUE_IN) + advance(2))
     for n in range(1, MAX_STATIONS + 1):
         rows = [(list(range(n)), [3 + j for j in range(n)]), ([7] * n, [2] * n), ([1] * n, [1] * n)]
         calls = b''.join(by_row(QUOTE, r, room=-1) + by_row(OFFER, r, room=-1) + by_row(OFFER, r, room=9) + advance(2) for r in (0, 1, 2, 1))
@@ -267,6 +271,9 @@ def formats():
     beyond = [sheet([1, 2, 65535, 0, 7], [9, 9, 0, 1, 65535]), sheet([1, 2] + [65535] * 6, [9, 9] + [1] * 6), sheet([], [300] * 2)]
     yield 'formats-beyond', two + sheets((B3,), beyond, rank=255) + advance(40)
     due_ins = (0, 1, MAX_DUE_IN, MAX_DUE_IN + 1, 65536 + 900, 2**31, 2**32 - 1)
+    within, beyond = (sheet([DEFAULT_DUE_IN - MAX_COST - 841 + more, MAX_COST - 841], [1, 1]) for more in (0, 1))
+    yield 'formats-default', (two + sheets((A1,), [beyond, within], due_in=0) + opened(2) + by_sheet(OFFER_FORMAT, A1, beyond, due_in=2 * DEFAULT_DUE_IN) +
+                              advance(2))
     yield 'formats-due', two + b''.join(by_format(which, A2, speed=99, due_in=d) for d in due_ins for which in both) + advance(3)
     text = two
     rest, other = (by_format(0, k, speed=50)[1:] for k in (A4, 0))
@@ -355,7 +362,7 @@ def words():
     yield "# Words for AFL++ to put into inputs: the mark and version, and the ends of the ranges of documents 01 and 02, low byte first."
     yield 'mark="' + layout.MARK.decode() + quoted(layout.HEAD[len(layout.MARK):]) + '"'
     for name, value, width in (('cost_most', MAX_COST, 2), ('cost_above', MAX_COST + 1, 2), ('due_in_most', MAX_DUE_IN, 4), ('due_in_above', MAX_DUE_IN + 1, 4),
-                               ('due_in_default', layout.DEFAULT_DUE_IN, 4), ('last_tick', LAST_TICK, 4), ('after_last_tick', LAST_TICK + 1, 4),
+                               ('due_in_default', DEFAULT_DUE_IN, 4), ('last_tick', LAST_TICK, 4), ('after_last_tick', LAST_TICK + 1, 4),
                                ('last_ticket', layout.LAST_TICKET, 4), ('speed_least', 1, 2), ('speed_most', FASTEST, 2), ('format_most', MAX_FORMAT, 4),
                                ('format_above', MAX_FORMAT + 1, 4), ('format_257', 257, 4)):
         yield f'{name}="{quoted(little(value, width))}"'
