@@ -54,7 +54,8 @@ FILES = [
     ("model/specs/Limits.antt", "The figures", [
         ("Stations", ["C: A cabinet has N stations"], ["maxStations"]),
         ("Costs", ["C: An order has, for each station"], ["maxCost"]),
-        ("Due-in", ["C: Its due-in is"], ["maxDueIn", "defaultDueIn"]),
+        ("Due-in", ["C: Its due-in is"], ["maxDueIn"]),
+        ("No due-in", ["iii: Due-in 0 is"], ["defaultDueIn"]),
         ("Live orders", ["C: At most 32 orders"], ["maxLive"]),
         ("Formats", ["i: Formats are numbered"], ["maxFormat"]),
         ("The last tick", ["I~ clock at most 4,000,000,000", "Q: Due tick at most", "Q: Clock below"], ["lastTick"]),
@@ -159,7 +160,7 @@ FILES = [
     ]),
     ("model/specs/Admission.antt", "An offer", [
         ("An order block read, and its bytes", ["I: An order block is"], ["blockOf", "blockBytes"]),
-        ("The due tick", ["C: Its due-in is", "C: Due tick ="], ["dueOf"]),
+        ("The due tick", ["C: Due tick =", "iii: Due-in 0 is"], ["dueOf"]),
         ("The newcomer's record", ["D: Offer tries the sums", "D: For an accepted order T", "R: It waits at station 1"], ["arrival"]),
         ("A live order that the newcomer joins", ["D: For an accepted order T", "D: Offer tries the sums"], ["joinedBy", "joinedLive"]),
         ("The accepted state", ["C: Tickets run from 1", "I~ next ticket (4), 0 when none is left"], ["accept"]),
@@ -338,6 +339,10 @@ FILES = [
         ("A quote", ["D: Quote gives"], ["QuotedAs", "QuoteGivesOffer"]),
         ("A quote by format", ["D: Quote gives", "i: Offered or quoted"], ["FormatQuoteGivesOffer"]),
     ]),
+    ("call_laws/specs/DefaultDueIn.antt", "What due-in 0 stands for", [
+        ("An order with another due-in", ["I: An order block is", "i: An order may give"], ["withDueIn", "formatWithDueIn"]),
+        ("Due-in 0 and the default", ["iii: Due-in 0 is", "iii: Quote, offer and"], ["StandsFor", "ZeroStandsForDefault"]),
+    ]),
     ("call_laws/specs/AdvanceKept.antt", "What an advance leaves", [
         ("A done advance", FURTHER, ["AdvanceKeepsSound"]),
     ]),
@@ -444,15 +449,16 @@ FILES = [
         ("An order block", ["I: An order block is"], ["halves", "block", "order"]),
         ("X and Y", ["E: N = 2 unless named"], ["X", "Y"]),
         ("A margin below zero", ["D~ a whole number that may be below zero"], ["minus"]),
-        ("Rows for offers and advances", ["Q~ offer gives the ticket, acceptance tick + delay sum, and the smallest margin over newcomer and live orders",
-                                          "Q: Declined", "Q~ advance gives the ticket out or 0, the new clock, and 0"], ["accepts", "late", "advances"]),
+        ("Rows for offers, quotes and advances", ["Q~ offer gives the ticket, acceptance tick + delay sum, and the smallest margin over newcomer and live orders",
+                                                  "Q: Declined", "D: Quote gives", "Q~ advance gives the ticket out or 0, the new clock, and 0"],
+         ["accepts", "late", "quotes", "advances"]),
         ("The first two", ["E: P: X, due-in 20", "E: P: then Y at 0", "E: X is out at 5"], ["firstTwo"]),
         ("A late newcomer", ["E: P: Y with due-in 6"], ["lateArrival"]),
         ("A live order that would be late", ["E: P: X with due-in 6"], ["lateLive"]),
         ("Ranks the other way round", ["E: P: as the first two"], ["ranksReversed"]),
         ("No start at a busy station", ["E: P: X at 0 with"], ["startsAtTwo"]),
         ("One station", ["E: P: N = 1"], ["oneStation"]),
-        ("Eight stations", ["E: P: N = 8"], ["eightStations"]),
+        ("Eight stations", ["E: P: N = 8", "iii~ Eight costs of 6,000 are still declined"], ["eightStations"]),
         ("All of them", ["E: Marked P are proved"], ["paperCases"]),
     ]),
     ("model/specs/FormatCases.antt", "Worked cases of orders by format", [
@@ -464,6 +470,12 @@ FILES = [
         ("Each long side", ["i: The long sides come", "i: Formats are numbered"], ["told", "tenFormats"]),
         ("Each number", ["i: Refused: 19", "i: A sheet of another length"], ["formatNumbers"]),
         ("All of them", ["i: Offered or quoted"], ["formatCases"]),
+    ]),
+    ("model/specs/DefaultCases.antt", "Worked cases of the default due-in", [
+        ("A case on each side", ["iii~ lodges that relied on 18,000 write it out, and the workshop needs a case on each side of 9,000"], ["sidesOfDefault"]),
+        ("The same beside a live order", [FURTHER, "iii~ the workshop needs a case on each side of 9,000"], ["sidesWithLive"]),
+        ("The same by format", ["iii: Quote, offer and", "iii~ the workshop needs a case on each side of 9,000"], ["sidesByFormat"]),
+        ("All of them", ["iii~ the workshop needs a case on each side of 9,000"], ["defaultCases"]),
     ]),
     ("claims/specs/WorkedCases.antt", "The table of worked cases", [
         ("A case, and that it holds", ["W~ The cases marked P form one proved table"], ["Case", "CaseHolds", "EachHolds"]),
@@ -486,12 +498,12 @@ WHOLE = {
     "model/specs/History.antt": ["R: The book is fed", "R: It holds N", "R: It starts with"],
 }
 
-# What requests overrule: a passage of document 01 or of an earlier request, and the passage of the request that holds in its place, such as
-#     ("C~ 0 stands for 18,000.", "iii: Due-in 0 is"),
+# What requests overrule: a passage of document 01 or of an earlier request, and the passage of the request that holds in its place.
 OVERRULED = [
     ("S~ R / period of i", "ii~ (R + deadline of i - 1) / period of i"),
     ("S~ 1 5 7 on-time 2 4 7 on-time", "ii~ Document 01's first table then has responses 9 and 10, the second task late"),
     ("S: With deadline 7", "ii~ with deadline 7 for task 2 both figures are the same"),
+    ("C~ 0 stands for 18,000.", "iii: Due-in 0 is"),
 ]
 
 # Sentences of these sections, and of requests, that no definition of `Claims` renders, and where they are kept; and words that are not rendered of a sentence
@@ -513,6 +525,7 @@ ELSEWHERE = [
     ("i: Counters know", "why it was asked for"),
     ("ii: A landing that", "why it was asked for"),
     ("ii~ Planning figures, demand 2's too, are compared with this rule from now on", "tests/README.md says what is compared with what, and at which level"),
+    ("iii: Walkers who", "why it was asked for"),
     ("X: The core carries", "a form of the code: crates/image/src/pipeline.rt"),
     ("X: After it, a station's", "a form of the code: crates/tick/src/entries.rt"),
 ]
