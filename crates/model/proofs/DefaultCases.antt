@@ -15,7 +15,7 @@ sides-with-live-hold = after sides-of-default-hold (held 1, (held 2, (held 3, (h
 
 pub sides-by-format-hold : Hold sidesByFormat
 unfolding Hold sheetOf byFormat takes tooLate tells sidesByFormat
-sides-by-format-hold = after sides-with-live-hold (held 1, (held 2, (held 3, (held 4, (held 5, (held 6, (held 7, (held 8, (held 9, (held 10, (held 11, (held 12, (held 13, tt)))))))))))))
+sides-by-format-hold = after sides-with-live-hold (held 1, (held 2, (held 3, (held 4, (held 5, (held 6, (held 7, (held 8, (held 9, (held 10, (held 11, (held 12, (held 13, (held 14, (held 15, tt)))))))))))))))
 
 pub default-cases-hold : AllHold defaultCases
 unfolding defaultCases

@@ -1,4 +1,4 @@
--- Document 01 as definitions, all but plan's, in its order; and of document 02, order by paper format.
+-- Document 01 as definitions, all but plan's, in its order; and of document 02, orders by paper format and the default due-in.
 pub mod Lists
 pub mod Limits
 pub mod Bytes

@@ -116,7 +116,7 @@ unfolding formatNumbers refuses
 format-numbers = (refl, refl, refl, refl)
 
 -- Document 02, (iii): "the workshop needs a case on each side of 9,000", as blocks, beside a live order, and by format.
-default-lengths : (length sidesOfDefault ≡ 13) × (length sidesWithLive ≡ 9) × (length sidesByFormat ≡ 13)
+default-lengths : (length sidesOfDefault ≡ 13) × (length sidesWithLive ≡ 9) × (length sidesByFormat ≡ 15)
 unfolding sidesOfDefault sidesWithLive sidesByFormat
 default-lengths = (refl, refl, refl)
 
@@ -131,9 +131,9 @@ sides-with-live = (refl, refl, refl, refl)
 abbrev ofA1 : ℕ → ℕ → FormatOrder
 ofA1 dueIn fixed = byFormat 1 dueIn 0 (sheetOf (fixed ∷ 5159 ∷ []) (1 ∷ 1 ∷ []))
 
-sides-by-format : (rowAt sidesByFormat 2 ≡ offeredFormat (ofA1 0 2159) 1 9000 0) × (rowAt sidesByFormat 8 ≡ gives (offeringFormat (ofA1 0 2160)) 11 (record { ticket = 0; tick = 0; margin = negsuc 0 })) × (rowAt sidesByFormat 9 ≡ offeredFormat (ofA1 18000 2160) 1 9001 8999)
+sides-by-format : (rowAt sidesByFormat 2 ≡ offeredFormat (ofA1 0 2159) 1 9000 0) × (rowAt sidesByFormat 8 ≡ gives (offeringFormat (ofA1 0 2160)) 11 (record { ticket = 0; tick = 0; margin = negsuc 0 })) × (rowAt sidesByFormat 9 ≡ offeredFormat (ofA1 18000 2160) 1 9001 8999) × (rowAt sidesByFormat 14 ≡ gives (offeringFormat (byFormat 6 0 0 (sheetOf (replicate 8 5000) (replicate 8 1)))) 11 (record { ticket = 0; tick = 0; margin = negsuc 38999 }))
 unfolding sidesByFormat takes tooLate
-sides-by-format = (refl, refl, refl)
+sides-by-format = (refl, refl, refl, refl)
 
 abbrev sideTold : ℕ → ℕ → ℕ → Row
 sideTold format side margin = gives (quotingFormat (byFormat format 2000 0 (sheetOf [] (1 ∷ [])))) 0 (record { ticket = 0; tick = side; margin = pos margin })
