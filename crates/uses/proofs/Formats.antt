@@ -22,11 +22,11 @@ use Rattle.model.specs.FormatCases.{sheetOf, byFormat, twoStations}
 use Rattle.lists.proofs.Tests.{and-both}
 use Rattle.image_laws.specs.Usable.{Usable}
 use Rattle.call_laws.specs.OfferKept.{QuotedAs}
-use Rattle.call_laws.specs.DefaultDueIn.{StandsFor}
+use Rattle.call_laws.specs.DefaultDueIn.{formatWithDueIn, StandsFor}
 use Rattle.call_laws.specs.FormatExact.{Readable, Writable, FormatAt}
 use Rattle.claims.specs.ByHistory.{Judged}
 use Rattle.claims.proofs.Claims.{claims}
-use Rattle.uses.specs.DefiniteLists.{someReply, opened, whole, oneCalls, one, longCalls, long, allStations, P}
+use Rattle.uses.specs.DefiniteLists.{someReply, opened, whole, oneCalls, one, longCalls, long, allStations, P, endImage}
 use Rattle.uses.proofs.Words.{Figure, Bytes, Yes}
 use Rattle.uses.proofs.Offers.{one-usable}
 use Rattle.uses.proofs.ByHistory.{taken, taken-back, late, late-back, delaying, delaying-back, considered, one-in-step, long-in-step}
@@ -208,6 +208,17 @@ format-zero-quoted =
     let same = format-zero .format-quotes (asB1 100) in
     (same, ap (λ (r : Result). r .number) same, ap (λ (r : Result). r .reply) same)
 
+-- Whatever is lent: no such format, a sheet of 31 bytes, a reply of 15, an image of 2,127, and one at the clock's end. And at 8 stations.
+both-by-format : (image reply : List ℕ) (f : FormatOrder) → (offerFormatCall image (formatWithDueIn 0 f) reply .number ≡ offerFormatCall image (formatWithDueIn 9000 f) reply .number) × (quoteFormatCall image (formatWithDueIn 0 f) reply .number ≡ quoteFormatCall image (formatWithDueIn 9000 f) reply .number)
+both-by-format image reply f =
+    let s = claims .default-due-in image reply in
+    (ap (λ (r : Result). r .number) (s .format-offers f), ap (λ (r : Result). r .number) (s .format-quotes f))
+
+format-zero-declined : (Figure 19 × Figure 19) × (Figure 5 × Figure 5) × (Figure 1 × Figure 1) × (Figure 2 × Figure 2) × (Figure 8 × Figure 8)
+unfolding readRow opened oneCalls one X Y byFormat twoStations started afterCall outcome afterAll endImage
+format-zero-declined =
+    (both-by-format (one .image) someReply (unnamed 11), both-by-format (one .image) someReply short, both-by-format (one .image) (lent 15) (asY 7), both-by-format (take 2127 (one .image)) someReply (asY 7), both-by-format endImage someReply (asY 7))
+
 -- What declines leave: 19 of an offer, and 12 of a quote, all but the margin, which is judged below.
 format-offer-declined : Figure 1 × Figure 16 × Bytes (19 ∷ replicate 11 0) × Bytes (19 ∷ replicate 15 0)
 unfolding readRow opened oneCalls one X Y byFormat twoStations started afterCall outcome afterAll
@@ -256,6 +267,10 @@ small dueIn = byFormat 5 dueIn 1 allStations
 long-as-block : (offerFormatCall (long .image) (small 10) someReply ≡ offerCall (long .image) (P 10) someReply) × (quoteFormatCall (long .image) (small 10) someReply ≡ quoteCall (long .image) (P 10) someReply)
 unfolding readRow opened longCalls long order P byFormat allStations started afterCall outcome afterAll blockBytes
 long-as-block = let a = at-long (small 10) in let w = a .considered (inl refl) in (a .offers-as-block w, a .quotes-as-block w)
+
+long-zero : Figure 0 × Figure 0
+unfolding readRow opened longCalls long order byFormat allStations started afterCall outcome afterAll
+long-zero = both-by-format (long .image) someReply (small 10)
 
 long-considered : WritableAs 5 1 1 10
 unfolding readRow opened longCalls long order byFormat allStations started afterCall outcome afterAll

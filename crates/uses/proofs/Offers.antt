@@ -34,7 +34,7 @@ use Rattle.call_laws.specs.OfferKept.{QuotedAs}
 use Rattle.call_laws.specs.DefaultDueIn.{StandsFor}
 use Rattle.call_laws.proofs.offers.Questions.{fitting}
 use Rattle.claims.proofs.Claims.{claims}
-use Rattle.uses.specs.DefiniteLists.{someImage, someReply, opened, oneCalls, one, Z}
+use Rattle.uses.specs.DefiniteLists.{someImage, someReply, opened, oneCalls, one, Z, longCalls, long, P, endImage}
 use Rattle.uses.proofs.Words.{Figure, Bytes, Yes, No, of-one, smaller, smaller-of-two, all-bytes}
 
 -- ---- what is taken from `Exact`, of any image of bytes with one live order, and any block
@@ -180,7 +180,7 @@ quote-unheard : Bytes (replicate 15 238)
 unfolding readRow opened oneCalls one X Y Z started afterCall outcome afterAll
 quote-unheard = claims .quote-gives-offer (one .image) (Y 7 5) (lent 15) .unheard refl
 
--- ---- due-in 0 is 9,000 written out: of an offer that is done, of a quote that is late, and of blocks of 27 bytes
+-- ---- due-in 0 is 9,000 written out: of an offer that is done, and of a quote that is late
 zero : StandsFor (one .image) someReply
 zero = claims .default-due-in (one .image) someReply
 
@@ -201,11 +201,21 @@ zero-quoted =
     let same = zero .quotes (drop 4 (heavy 0)) in
     (same, ap (λ (r : Result). r .number) same, ap (λ (r : Result). r .reply) same)
 
-zero-cut : Figure 5 × Figure 5
-unfolding readRow opened oneCalls one X Y Z started afterCall outcome afterAll
-zero-cut =
-    let rest = take 23 (drop 4 (Y 0 5)) in
-    (ap (λ (r : Result). r .number) (zero .offers rest), ap (λ (r : Result). r .number) (zero .quotes rest))
+-- Whatever is lent: blocks of 27 bytes, a reply of 15, an image of 2,127, and one at the clock's end. And at 8 stations.
+both-numbers : (image reply rest : List ℕ) → (offerCall image (fourBytes 0 ++ rest) reply .number ≡ offerCall image (fourBytes 9000 ++ rest) reply .number) × (quoteCall image (fourBytes 0 ++ rest) reply .number ≡ quoteCall image (fourBytes 9000 ++ rest) reply .number)
+both-numbers image reply rest =
+    let s = claims .default-due-in image reply in
+    (ap (λ (r : Result). r .number) (s .offers rest), ap (λ (r : Result). r .number) (s .quotes rest))
+
+zero-declined : (Figure 5 × Figure 5) × (Figure 1 × Figure 1) × (Figure 2 × Figure 2) × (Figure 8 × Figure 8)
+unfolding readRow opened oneCalls one X Y Z started afterCall outcome afterAll endImage
+zero-declined =
+    let rest = drop 4 (Y 0 5) in
+    (both-numbers (one .image) someReply (take 23 rest), both-numbers (one .image) (lent 15) rest, both-numbers (take 2127 (one .image)) someReply rest, both-numbers endImage someReply rest)
+
+zero-long : Figure 0 × Figure 0
+unfolding readRow opened longCalls long order P started afterCall outcome afterAll
+zero-long = both-numbers (long .image) someReply (drop 4 (P 0))
 
 -- ---- a done offer leaves a sound image that says the state with the arrival
 kept : Figure 2128 × (87 < 256) × Yes × Yes × Figure 3
