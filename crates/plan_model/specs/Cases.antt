@@ -14,9 +14,10 @@ use Rattle.plan_model.specs.Base.{largestCost, stageMaxima, base}
 use Rattle.plan_model.specs.Response.{releases, share, others, next, ends, settled, responseFrom, verdictOf}
 use Rattle.plan_model.specs.Plan.{inRange, planQuestions, planNumber, response, withFigures, figured, planned}
 use Rattle.plan_model.specs.Thesis.{thesisShare, thesisNext, thesisResponse, thesisResponses}
-use Rattle.plan_model.specs.Parts.{parts, lastOf}
-use Rattle.plan_model.specs.Number.{isNumber, valueOf}
-use Rattle.plan_model.specs.Input.{linesOf, lines, isStations, stationsOf, isNumbers, isTaskLines, taskOf, taskAt, tasksOf, formQuestions, inputQuestions, inputNumber}
+use Rattle.text.specs.Parts.{parts, lastOf, linesOf, lines}
+use Rattle.text.specs.Number.{valueOf}
+use Rattle.plan_model.specs.Number.{isNumber}
+use Rattle.plan_model.specs.Input.{isStations, stationsOf, isNumbers, isTaskLines, taskOf, taskAt, tasksOf, formQuestions, inputQuestions, inputNumber}
 use Rattle.plan_model.specs.Output.{field, taskLine, taskLines, table, refusal, planOutput}
 
 -- For this input this is printed, and nothing else.

@@ -1,7 +1,7 @@
 -- The plan program's input: "first line N, then one line a task, `period deadline cost1 .. costN`", "single spaces, each line ended by a line feed"; and its
 -- questions.
 use mathlib.Core.Bool.{Bool, false, _&&_}
-use mathlib.Core.List.{List, [], _∷_, _++_, map, dropLast}
+use mathlib.Core.List.{List, [], _∷_, _++_, map}
 use Prim.Native.Nat.{ℕ, _+_, _-_}
 use lib.ListN.{length, getD, drop, replicate}
 use lib.Dec.{leb, eqb}
@@ -11,20 +11,10 @@ use Rattle.model.specs.Questions.{Question, _else_, firstNo}
 use Rattle.plan_model.specs.declared.Task.{Task}
 use Rattle.plan_model.specs.declared.Verdict.the-variants.{Late}
 use Rattle.plan_model.specs.Limits.{maxTasks, maxInput, maxNumbers}
-use Rattle.plan_model.specs.Parts.{lineFeed, space, parts, lastOf}
-use Rattle.plan_model.specs.Number.{isNumber, valueOf}
+use Rattle.text.specs.Parts.{lineFeed, parts, lastOf, linesOf, lines, words}
+use Rattle.text.specs.Number.{valueOf}
+use Rattle.plan_model.specs.Number.{isNumber}
 use Rattle.plan_model.specs.Plan.{inRange}
-
--- The lines: all parts but the last, since a line feed ends each line.
-unfoldable pub linesOf : List (List ℕ) → List (List ℕ)
-linesOf ps = dropLast ps
-
-unfoldable pub lines : List ℕ → List (List ℕ)
-lines input = linesOf (parts lineFeed input)
-
--- The words of a line, between single spaces.
-abbrev pub words : List ℕ → List (List ℕ)
-words line = parts space line
 
 -- "first line a number 1 to 8"
 unfoldable pub isStations : List (List ℕ) → Bool

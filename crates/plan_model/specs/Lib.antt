@@ -4,7 +4,6 @@ pub mod Records
 pub mod Base
 pub mod Response
 pub mod Plan
-pub mod Parts
 pub mod Number
 pub mod Input
 pub mod Output

@@ -1,4 +1,3 @@
--- The laws by which parts of a text are read: where a part ends, what a word is, and parts one after the other.
-pub mod PartLaws
+-- The laws by which parts of a text are read: what a word is, and parts one after the other.
 pub mod WordLaws
 pub mod ReadingLaws

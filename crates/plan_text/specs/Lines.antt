@@ -4,8 +4,9 @@ use mathlib.Core.List.{List, map}
 use Prim.Native.Nat.{ℕ}
 use lib.ListN.{replicate}
 use Rattle.plan_model.specs.Limits.{maxNumbers}
-use Rattle.plan_model.specs.Number.{valueOf}
-use Rattle.plan_model.specs.Input.{words, isNumbers}
+use Rattle.text.specs.Parts.{words}
+use Rattle.text.specs.Number.{valueOf}
+use Rattle.plan_model.specs.Input.{isNumbers}
 use Rattle.plan_text.specs.declared.lines.Line.{Line}
 use Rattle.plan_text.specs.Padded.{padded}
 

@@ -4,8 +4,8 @@ use Prim.Native.Nat.{ℕ}
 use lib.ListN.{length, drop}
 use lib.Dec.{leb}
 use Rattle.plan_model.specs.Limits.{maxInput}
-use Rattle.plan_model.specs.Parts.{lineFeed, parts}
-use Rattle.plan_model.specs.Input.{lines, isStations, stationsOf, isTaskLines, tasksOf}
+use Rattle.text.specs.Parts.{lineFeed, parts, lines}
+use Rattle.plan_model.specs.Input.{isStations, stationsOf, isTaskLines, tasksOf}
 use Rattle.plan_text.specs.declared.answer.Form.the-variants.{TooLong, NotStations, NotTasks}
 use Rattle.plan_text.specs.declared.answer.Parsed.{Parsed}
 use Rattle.plan_text.specs.Answer.{table, asked}

@@ -1,7 +1,8 @@
 -- What question 17 says of the task lines.
 use mathlib.Core.List.{List, map}
 use Prim.Native.Nat.{ℕ}
-use Rattle.plan_model.specs.Input.{linesOf, isTaskLines, taskAt}
+use Rattle.text.specs.Parts.{linesOf}
+use Rattle.plan_model.specs.Input.{isTaskLines, taskAt}
 use Rattle.plan_text.specs.declared.answer.Form.the-variants.{NotTasks}
 use Rattle.plan_text.specs.declared.answer.Parsed.{Parsed}
 use Rattle.plan_text.specs.Answer.{table, asked}

@@ -8,7 +8,7 @@ use super::answer::refused;
 use super::task_lines::LINE_FEED;
 use super::task_lines::read_tasks;
 use super::words::Value;
-use super::words::part_end;
+use text::parts::part_end;
 use super::words::value_of;
 use model::limits::MAX_STATIONS;
 use plan_model::limits::MAX_INPUT;

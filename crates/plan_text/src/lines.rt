@@ -4,7 +4,7 @@ ghost use Prim.Native.Nat.{_≤_};
 ghost use Rattle.plan_model.specs.Limits.{maxNumbers};
 ghost use Rattle.plan_text.specs.Lines.{malformedLine, lineOf};
 use super::words::Value;
-use super::words::part_end;
+use text::parts::part_end;
 use super::words::value_of;
 
 const SPACE: u8 = b' ';

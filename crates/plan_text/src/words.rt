@@ -1,9 +1,7 @@
 // The words of the plan program's input (document 01, "The standing table"): "unsigned decimals of 1 to 9 digits without
 // leading zeros (a lone 0 has the form)". Bytes in, numbers out; what the numbers stand for is not known here.
 ghost use mathlib.Core.Path.{_≡_};
-ghost use Prim.Native.Nat.{_≤_};
-ghost use lib.ListN.{length};
-ghost use Rattle.plan_text.specs.Words.{partEnd, valueIn};
+ghost use Rattle.plan_text.specs.Words.{valueIn};
 
 const MAX_DIGITS: usize = 9;
 
@@ -15,22 +13,6 @@ const NINE: u8 = b'9';
 pub enum Value {
     Number(u32),
     Malformed,
-}
-
-// Where the part that begins at `start` ends: at the next separator, or else with the text. Ruled out: the place after the
-// separator; that of a larger byte before it.
-pub fn part_end(text: &[u8], start: usize, separator: u8) -> usize
-    requires { ⌜ start ≤ length (now text) ⌝ }
-    ensures { λ r. ⌜ r ≡ partEnd separator (now (text .entry)) start ⌝ }
-{
-    let mut i = start;
-    while i < text.len() {
-        if text[i] == separator {
-            return i;
-        }
-        i += 1;
-    }
-    i
 }
 
 // The number that a word is. The length is tested first, so that the value fits 32 bits. Ruled out: 2 for `02`; a number for

@@ -1,3 +1,5 @@
--- Text as bytes: words, and numbers in decimal.
+-- Text as bytes: words, numbers in decimal, and the lines and words of a text.
 pub mod Ascii
 pub mod Decimal
+pub mod Number
+pub mod Parts

@@ -14,9 +14,10 @@ use Rattle.model.specs.Questions.{_else_, firstNo}
 use Rattle.plan_model.specs.declared.Task.{Task}
 use Rattle.plan_model.specs.Limits.{maxTasks, maxInput}
 use Rattle.plan_model.specs.Records.{blank}
-use Rattle.plan_model.specs.Parts.{lineFeed, parts, lastOf}
-use Rattle.plan_model.specs.Number.{isNumber, valueOf}
-use Rattle.plan_model.specs.Input.{linesOf, lines, isStations, stationsOf, isTaskLine, isTaskLines, taskAt, tasksOf, formQuestions, inputQuestions, inputNumber}
+use Rattle.text.specs.Parts.{lineFeed, parts, lastOf, linesOf, lines}
+use Rattle.text.specs.Number.{valueOf}
+use Rattle.plan_model.specs.Number.{isNumber}
+use Rattle.plan_model.specs.Input.{isStations, stationsOf, isTaskLine, isTaskLines, taskAt, tasksOf, formQuestions, inputQuestions, inputNumber}
 use Rattle.plan_model.specs.Plan.{planQuestions, planNumber}
 use Rattle.plan_model.proofs.Ranges.{inside}
 use Rattle.lists.proofs.Tests.{and-both}

@@ -8,15 +8,16 @@ use lib.ListN.{length, take, drop}
 use borrow.Author.Tests.{le-leb, lt-leb}
 use Rattle.model.specs.Limits.{maxStations}
 use Rattle.plan_model.specs.Limits.{maxInput}
-use Rattle.plan_model.specs.Parts.{lineFeed, parts}
-use Rattle.plan_model.specs.Number.{isNumber, valueOf}
-use Rattle.plan_model.specs.Input.{linesOf, lines, isStations, stationsOf, tasksOf}
+use Rattle.text.specs.Parts.{lineFeed, parts, linesOf, lines}
+use Rattle.text.specs.Number.{valueOf}
+use Rattle.plan_model.specs.Number.{isNumber}
+use Rattle.plan_model.specs.Input.{isStations, stationsOf, tasksOf}
 use Rattle.lists.proofs.Tests.{and-false, inside}
 use Rattle.plan_text.specs.declared.answer.Form.the-variants.{TooLong, NotStations}
 use Rattle.plan_text.specs.Answer.{refused}
 use Rattle.plan_text.specs.TaskLines.{tableOf}
 use Rattle.plan_text.specs.Parsed.{parsed}
-use Rattle.plan_text.proofs.words.PartLaws.{partsFrom, Ended, from-inside, from-past, parts-some}
+use Rattle.text.proofs.parts.PartLaws.{partsFrom, Ended, from-inside, from-past, parts-some}
 use Rattle.plan_text.proofs.words.WordLaws.{outside}
 
 -- A part that another follows is a line.

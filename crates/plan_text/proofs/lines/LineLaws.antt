@@ -7,12 +7,14 @@ use native.Mathlib.Omega.{arith}
 use lib.ListN.{length, set, take, drop, replicate}
 use borrow.Author.Tests.{eq-eqb, ne-eqb}
 use Rattle.model.specs.Lists.{all}
-use Rattle.plan_model.specs.Number.{isNumber, valueOf}
-use Rattle.plan_model.specs.Input.{words, isNumbers}
+use Rattle.text.specs.Parts.{words}
+use Rattle.text.specs.Number.{valueOf}
+use Rattle.plan_model.specs.Number.{isNumber}
+use Rattle.plan_model.specs.Input.{isNumbers}
 use Rattle.lists.proofs.Tests.{and-false}
 use Rattle.plan_model.specs.Limits.{maxNumbers}
 use Rattle.plan_text.specs.Lines.{formedLine, malformedLine, lineOf}
-use Rattle.plan_text.proofs.words.PartLaws.{partsFrom, Ended, from-inside, from-past, parts-some}
+use Rattle.text.proofs.parts.PartLaws.{partsFrom, Ended, from-inside, from-past, parts-some}
 use Rattle.plan_text.proofs.words.ReadingLaws.{Reading, reading-none, reading-part, reading-more, reading-rest, part-fails, all-pass, all-stored}
 
 abbrev pub space : ℕ

@@ -12,13 +12,13 @@ use Rattle.model.specs.Lists.{within, all}
 use Rattle.plan_model.specs.declared.Task.{Task}
 use Rattle.plan_model.specs.Limits.{maxTasks}
 use Rattle.plan_model.specs.Records.{blank}
-use Rattle.plan_model.specs.Parts.{lineFeed, parts, lastOf}
-use Rattle.plan_model.specs.Input.{linesOf, isTaskLine, isTaskLines, taskAt}
+use Rattle.text.specs.Parts.{lineFeed, parts, lastOf, linesOf}
+use Rattle.plan_model.specs.Input.{isTaskLine, isTaskLines, taskAt}
 use Rattle.lists.proofs.Tests.{either, and-false, both-false}
 use Rattle.plan_text.specs.declared.answer.Form.the-variants.{Passed, NotTasks}
 use Rattle.plan_text.specs.Answer.{table, refused}
 use Rattle.plan_text.specs.TaskLines.{tableOf}
-use Rattle.plan_text.proofs.words.PartLaws.{partsFrom, Ended, from-inside, from-past, parts-some}
+use Rattle.text.proofs.parts.PartLaws.{partsFrom, Ended, from-inside, from-past, parts-some}
 use Rattle.plan_text.proofs.words.ReadingLaws.{Reading, reading-none, reading-part, reading-more, line-counts, line-fails, last-part, lines-count, lines-pass, lines-stored}
 
 -- Parts are no table by what follows the last line feed, by how many lines there are, or by what one of them says.

@@ -10,8 +10,10 @@ use lib.Seq.{getD-drop, drop-append-le}
 use borrow.Author.Tests.{eqb-true}
 use Rattle.model.specs.Limits.{maxStations}
 use Rattle.model.specs.Lists.{all, upward}
-use Rattle.plan_model.specs.Number.{isNumber, valueOf}
-use Rattle.plan_model.specs.Input.{words, isNumbers, isTaskLine, taskOf, taskAt}
+use Rattle.text.specs.Parts.{words}
+use Rattle.text.specs.Number.{valueOf}
+use Rattle.plan_model.specs.Number.{isNumber}
+use Rattle.plan_model.specs.Input.{isNumbers, isTaskLine, taskOf, taskAt}
 use Rattle.lists.proofs.Fills.{upward-same, upward-list}
 use Rattle.lists.proofs.Tests.{and-both}
 use Rattle.plan_text.specs.declared.lines.Line.{Line}

@@ -9,12 +9,11 @@ use native.Mathlib.Omega.{arith}
 use lib.ListN.{length, getD, set, take, drop, replicate, length-drop}
 use lib.Seq.{take-suc, take-all, drop-cons, length-take-le, getD-take}
 use Rattle.model.specs.Lists.{all, upward}
-use Rattle.plan_model.specs.Parts.{lastOf}
-use Rattle.plan_model.specs.Input.{linesOf}
+use Rattle.text.specs.Parts.{lastOf, linesOf}
 use Rattle.lists.proofs.Fills.{length-upward, pad-start, pad-next, map-upward, upward-list}
 use Rattle.lists.proofs.Tests.{all-more, one-fails}
 use Rattle.plan_text.specs.Padded.{padded}
-use Rattle.plan_text.proofs.words.PartLaws.{partsFrom, Ended}
+use Rattle.text.proofs.parts.PartLaws.{partsFrom, Ended}
 
 -- All parts but the last, and the last, by their places.
 lines-are : (ps : List (List ℕ)) → linesOf ps ≡ take (length ps - 1) ps

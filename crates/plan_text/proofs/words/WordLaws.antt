@@ -12,7 +12,8 @@ use lib.Seq.{drop-cons}
 use borrow.Author.Tests.{ltb-false}
 use Rattle.model.specs.Lists.{within, all}
 use Rattle.plan_model.specs.Limits.{maxDigits}
-use Rattle.plan_model.specs.Number.{isDigit, isNumber, appended, valueOf}
+use Rattle.text.specs.Number.{isDigit, appended, valueOf}
+use Rattle.plan_model.specs.Number.{isNumber}
 use Rattle.lists.proofs.Tests.{and-false, both-false, inside}
 use Rattle.plan_text.specs.declared.words.Value.{Value}
 use Rattle.plan_text.specs.declared.words.Value.the-variants.{Number, Malformed}

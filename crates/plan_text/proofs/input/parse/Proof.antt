@@ -3,7 +3,7 @@ use mathlib.Core.Path.{_∙_}
 use native.Mathlib.Omega.{arith}
 use borrow.Author.Needs.{needs}
 use Rattle.model.specs.Limits.{maxStations}
-use Rattle.plan_text.proofs.words.PartLaws.{ended}
+use Rattle.text.proofs.parts.PartLaws.{ended}
 use Rattle.plan_text.proofs.words.WordLaws.{bounds, was-number, was-malformed}
 use Rattle.plan_text.proofs.input.InputLaws.{too-long, no-first-line, no-number, out-of-range, stations-read}
 use Rattle.plan_text.proofs.input.parse.Statement.{statement}

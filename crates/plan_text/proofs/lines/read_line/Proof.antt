@@ -3,7 +3,7 @@ use mathlib.Core.Path.{_∙_}
 use Prim.Native.Nat.{_-_}
 use native.Mathlib.Omega.{arith}
 use borrow.Author.Needs.{needs}
-use Rattle.plan_text.proofs.words.PartLaws.{ended}
+use Rattle.text.proofs.parts.PartLaws.{ended}
 use Rattle.plan_text.proofs.words.WordLaws.{was-number, was-malformed}
 use Rattle.plan_text.proofs.lines.LineLaws.{Numbers, numbers-none, numbers-more, other-word, too-few, too-many, all-read}
 use Rattle.plan_text.proofs.lines.read_line.Statement.{statement}

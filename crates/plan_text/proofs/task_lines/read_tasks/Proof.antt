@@ -5,7 +5,7 @@ use native.Mathlib.Omega.{arith}
 use borrow.Author.Needs.{needs}
 use borrow.Author.Tests.{not-true, not-false}
 use lib.ListN.{length}
-use Rattle.plan_text.proofs.words.PartLaws.{ended}
+use Rattle.text.proofs.parts.PartLaws.{ended}
 use Rattle.plan_text.proofs.task_lines.TaskLaws.{was-task, was-no-task}
 use Rattle.plan_text.proofs.task_lines.TableLaws.{Rows, rows-none, rows-more, unended-or-full, ended-and-room, other-line, no-line, all-lines}
 use Rattle.plan_text.proofs.task_lines.read_tasks.Statement.{statement}

@@ -3,10 +3,10 @@ use mathlib.Core.Path.{_≡_, refl, _∙_}
 use Prim.Native.Nat.{_≤_, _-_}
 use borrow.Author.Needs.{needs}
 use lib.ListN.{length}
-use Rattle.plan_text.specs.Words.{partEnd}
-use Rattle.plan_text.proofs.words.PartLaws.{end-passes, end-at, end-last}
-use Rattle.plan_text.proofs.words.part_end.Statement.{statement}
-use Rattle.plan_text.proofs.words.part_end.Tie as tie
+use Rattle.text.specs.Parts.{partEnd}
+use Rattle.text.proofs.parts.PartLaws.{end-passes, end-at, end-last}
+use Rattle.text.proofs.parts.part_end.Statement.{statement}
+use Rattle.text.proofs.parts.part_end.Tie as tie
 
 abbrev Inv-loop : tie.InvT-loop
 Inv-loop text start separator i₀ i = (i ≤ length text) × (partEnd separator text i ≡ partEnd separator text start)

@@ -1,7 +1,8 @@
 -- A text as the parts between separators: the lines of an input, the words of a line.
 use mathlib.Core.Bool.{Bool, true, false}
-use mathlib.Core.List.{List, [], _∷_}
-use Prim.Native.Nat.{ℕ}
+use mathlib.Core.List.{List, [], _∷_, dropLast}
+use Prim.Native.Nat.{ℕ, _+_}
+use lib.ListN.{length, getD, drop}
 use lib.Dec.{eqb}
 
 -- A line feed ends a line, and a space stands between two words.
@@ -27,3 +28,18 @@ unfoldable pub lastOf : List (List ℕ) → List ℕ
 lastOf [] = []
 lastOf (p ∷ []) = p
 lastOf (p ∷ q ∷ ps) = lastOf (q ∷ ps)
+
+-- The lines: all parts but the last, since a line feed ends each line.
+unfoldable pub linesOf : List (List ℕ) → List (List ℕ)
+linesOf ps = dropLast ps
+
+unfoldable pub lines : List ℕ → List (List ℕ)
+lines text = linesOf (parts lineFeed text)
+
+-- The words of a line, between single spaces.
+abbrev pub words : List ℕ → List (List ℕ)
+words line = parts space line
+
+-- The place after the first part of the text from a place on: that of its separator, or the end of the text.
+unfoldable pub partEnd : ℕ → List ℕ → ℕ → ℕ
+partEnd separator text start = start + length (getD (parts separator (drop start text)) 0 [])

@@ -10,8 +10,7 @@ use lib.Dec.{eqb}
 use lib.ListN.{length, getD, take, drop, length-drop, drop-of-length-le}
 use lib.Seq.{drop-cons}
 use borrow.Author.Tests.{eq-eqb, ne-eqb}
-use Rattle.plan_model.specs.Parts.{placed, parts}
-use Rattle.plan_text.specs.Words.{partEnd}
+use Rattle.text.specs.Parts.{placed, parts, partEnd}
 
 -- The parts of a text from a place on. Its end begins a last, empty part; past it there is none.
 unfoldable pub partsFrom : ℕ → List ℕ → ℕ → List (List ℕ)
