@@ -16,7 +16,7 @@ use image::layout::REPLY_SIZE;
 use image::layout::SHEET_SIZE;
 use image_text::explanation::explain;
 use plan_text::print::print_plan;
-use trials::block::order_block;
+use image::block::order_block;
 use trials::case_lines::put_reply_line;
 
 // The line of a call.

@@ -42,8 +42,8 @@ use Rattle.call_laws.proofs.offers.Margins.{smallest-margin}
 use Rattle.call_laws.proofs.offers.Exact.{margin-near, exact}
 use Rattle.call_laws.proofs.advances.Exact.{advance-numbers}
 use Rattle.claims.specs.ByHistory.{tried, arriving, OnTime, Late, marginOf, Considered, Smallest, Judged, InStep, ByHistory}
-use Rattle.claims.proofs.Invariant.{Invariant, whole, usable, says, offer-asks, format-asks, advance-asks, invariant-started, invariant-all}
-use Rattle.claims.proofs.Replies.{reply-tick}
+use Rattle.runs.proofs.Invariant.{Invariant, whole, usable, says, offer-asks, format-asks, advance-asks, invariant-started, invariant-all}
+use Rattle.runs.proofs.Replies.{reply-tick}
 use Rattle.call_laws.proofs.formats.Exact.{format-as-block}
 use Rattle.claims.proofs.Demand3.{due-last, ahead}
 use Rattle.claims.proofs.ByFormat.{judged-by-format}

@@ -26,9 +26,9 @@ use Rattle.image_laws.specs.SoundFacts.{SoundInRange}
 use Rattle.call_laws.proofs.offers.Questions.{Decided}
 use Rattle.call_laws.proofs.advances.Exact.{advance-numbers}
 use Rattle.claims.specs.Demand3.{InTime, Agrees, AllAgree, Demand3}
-use Rattle.claims.proofs.Out.{advanced-clock, out-in-history}
-use Rattle.claims.proofs.Replies.{reply-ticket, advance-gives}
-use Rattle.claims.proofs.Invariant.{Invariant, usable, says, few, written, block-is, offer-is, number-as-block, open-done, invariant-started, invariant-call, invariant-all}
+use Rattle.runs.proofs.Out.{advanced-clock, out-in-history}
+use Rattle.runs.proofs.Replies.{reply-ticket, advance-gives}
+use Rattle.runs.proofs.Invariant.{Invariant, usable, says, few, written, block-is, offer-is, number-as-block, open-done, invariant-started, invariant-call, invariant-all}
 
 -- ---- each accepted order
 module _ (run : Run) (kept : Invariant run) where

@@ -13,7 +13,7 @@ use Rattle.model.specs.Image.{decode}
 use Rattle.model.specs.Admission.{blockOf, blockBytes, accept}
 use Rattle.model.specs.Formats.{FormatOrder, formatBlock}
 use Rattle.model.specs.Calls.{Result, result, openCall, offerNumber, offerCall, quoteCall, formatNumber, offerFormatCall, quoteFormatCall, advanceNumber, advanceCall, Call, opening, quoting, offering, quotingFormat, offeringFormat, advancing, perform}
-use Rattle.model.specs.Runs.{Lent, started, afterAll}
+use Rattle.model.specs.Runs.{Lent, started, afterAll, duringCall, duringCalls}
 use Rattle.schedule.specs.Valid.{_∈_, serving}
 use Rattle.schedule.specs.Accept.{Acceptable}
 use Rattle.schedule.specs.Course as course
@@ -36,9 +36,9 @@ use Rattle.call_laws.proofs.advances.Exact.{advance-numbers}
 use Rattle.call_laws.proofs.advances.Advance.{advance-sound}
 use Rattle.call_laws.proofs.advances.Kept.{advance-decline-leaves}
 use Rattle.call_laws.proofs.advances.Kept as advances
-use Rattle.claims.specs.Images.{OfEveryImage, AfterEveryList, TicksAsAsked, StartsOnceAccepted, StartsOnceMoved, Timely, duringCall, duringCalls, NotReopened, ServedInFull}
-use Rattle.claims.proofs.Invariant.{says, invariant-started, invariant-all}
-use Rattle.claims.proofs.Replies.{advance-gives}
+use Rattle.claims.specs.Images.{OfEveryImage, AfterEveryList, TicksAsAsked, StartsOnceAccepted, StartsOnceMoved, Timely, NotReopened, ServedInFull}
+use Rattle.runs.proofs.Invariant.{says, invariant-started, invariant-all}
+use Rattle.runs.proofs.Replies.{advance-gives}
 
 -- ---- what a done call leaves
 module _ (image : List ℕ) (sound : SoundInRange (decode image)) where

@@ -1,7 +1,4 @@
--- The invariant over lists of calls, and the claims from it.
-pub mod Out
-pub mod Replies
-pub mod Invariant
+-- The claims, from the invariant over lists of calls.
 pub mod Demand3
 pub mod ByFormat
 pub mod ByHistory

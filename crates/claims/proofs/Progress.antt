@@ -12,8 +12,8 @@ use Rattle.model.specs.History.{Entry, History, advanceIn, entryDue}
 use Rattle.model.specs.Runs.{Lent, Run, started, outcome, afterCall, afterAll}
 use Rattle.schedule.specs.Valid.{_∈_}
 use Rattle.claims.specs.Progress.{advances, AllWhole, AllDone, Out, Progress}
-use Rattle.claims.proofs.Out.{advanced-clock, stays}
-use Rattle.claims.proofs.Invariant.{Invariant, invariant-started, invariant-call, invariant-all}
+use Rattle.runs.proofs.Out.{advanced-clock, stays}
+use Rattle.runs.proofs.Invariant.{Invariant, invariant-started, invariant-call, invariant-all}
 use Rattle.claims.proofs.Demand3.{due-last, advance-done, in-time, fed-advance}
 
 -- An order of one history in a later one.

@@ -2,11 +2,10 @@
 -- accepted order through the stations. Everything is said of the bytes that the calls are lent and leave.
 use mathlib.Core.Path.{_≡_}
 use mathlib.Core.Logic.{_≢_}
-use mathlib.Core.List.{List, [], _∷_, _++_, map}
-use Prim.Native.Nat.{ℕ, zero, suc, _+_, _<_, _≤_}
+use mathlib.Core.List.{List, [], _∷_, map}
+use Prim.Native.Nat.{ℕ, _+_, _<_, _≤_}
 use lib.ListN.{length}
 use Rattle.model.specs.declared.Order.{Order}
-use Rattle.model.specs.declared.Service.{Service}
 use Rattle.model.specs.Limits.{maxStations}
 use Rattle.model.specs.Lists.{at}
 use Rattle.model.specs.Bytes.{word}
@@ -15,8 +14,8 @@ use Rattle.model.specs.Tick.{oneLess, starts, advance, advanceOut}
 use Rattle.model.specs.Layout.{imageSize, replySize, replyTicketAt}
 use Rattle.model.specs.Image.{decode}
 use Rattle.model.specs.Admission.{blockOf}
-use Rattle.model.specs.Calls.{offerNumber, offerCall, advanceNumber, advanceCall, Call, opening, quoting, offering, quotingFormat, offeringFormat, advancing, perform}
-use Rattle.model.specs.Runs.{Lent, started, afterAll, Allowed, AllAllowed}
+use Rattle.model.specs.Calls.{offerNumber, offerCall, advanceNumber, advanceCall, perform}
+use Rattle.model.specs.Runs.{Lent, started, afterAll, Allowed, AllAllowed, duringCalls}
 use Rattle.schedule.specs.Valid.{_∈_, serving, cost, Busy}
 use Rattle.schedule.specs.Starts.{AtStart}
 use Rattle.schedule.specs.Pass.{passTo, Passes}
@@ -77,22 +76,6 @@ pub record TimelyAt (image : List ℕ) (s : State) : Type 0 where
 
 abbrev pub Timely : List ℕ → Type 0
 Timely image = TimelyAt image (decode image)
-
--- The entries of the stations during each tick of a list of calls, in turn: as the starts of each done advance leave them.
-abbrev pub duringCall : Call → List ℕ → ℕ → List (List Service)
-duringCall (opening n) image number = []
-duringCall (quoting block) image number = []
-duringCall (offering block) image number = []
-duringCall (quotingFormat f) image number = []
-duringCall (offeringFormat f) image number = []
-duringCall advancing image zero = starts (decode image) .services ∷ []
-duringCall advancing image (suc other) = []
-
-abbrev pub duringCalls : List ℕ → List Lent → List (List Service)
-duringCalls image [] = []
-duringCalls image (lent ∷ later) =
-    let r = perform (lent .call) image (lent .reply) in
-    duringCall (lent .call) image (r .number) ++ duringCalls (r .image) later
 
 -- "lists of these calls: quote, offer, advance, and open where it declines", from an image on.
 abbrev pub NotReopened : List ℕ → List Lent → Type 0

@@ -1,7 +1,10 @@
 -- Document 01, "The run book": lists of calls from a fresh cabinet, with the image and the history as each call leaves them.
 use mathlib.Core.Logic.{_≢_}
-use mathlib.Core.List.{List, [], _∷_}
-use Prim.Native.Nat.{ℕ}
+use mathlib.Core.List.{List, [], _∷_, _++_}
+use Prim.Native.Nat.{ℕ, zero, suc}
+use Rattle.model.specs.declared.Service.{Service}
+use Rattle.model.specs.Tick.{starts}
+use Rattle.model.specs.Image.{decode}
 use Rattle.model.specs.Calls.{Result, openCall, Call, opening, quoting, offering, quotingFormat, offeringFormat, advancing, perform}
 use Rattle.model.specs.History.{History, begun, feed}
 
@@ -45,3 +48,19 @@ Allowed advancing result = Unit {0}
 abbrev pub AllAllowed : Run → List Lent → Type 0
 AllAllowed run [] = Unit {0}
 AllAllowed run (lent ∷ later) = Allowed (lent .call) (outcome run lent) × AllAllowed (afterCall run lent) later
+
+-- The entries of the stations during each tick of a list of calls, in turn: as the starts of each done advance leave them.
+abbrev pub duringCall : Call → List ℕ → ℕ → List (List Service)
+duringCall (opening n) image number = []
+duringCall (quoting block) image number = []
+duringCall (offering block) image number = []
+duringCall (quotingFormat f) image number = []
+duringCall (offeringFormat f) image number = []
+duringCall advancing image zero = starts (decode image) .services ∷ []
+duringCall advancing image (suc other) = []
+
+abbrev pub duringCalls : List ℕ → List Lent → List (List Service)
+duringCalls image [] = []
+duringCalls image (lent ∷ later) =
+    let r = perform (lent .call) image (lent .reply) in
+    duringCall (lent .call) image (r .number) ++ duringCalls (r .image) later

@@ -3,7 +3,7 @@ ghost use mathlib.Core.Path.{_≡_};
 ghost use Prim.Native.Nat.{_<_, _≤_};
 ghost use Rattle.model.specs.Limits.{maxStations};
 ghost use Rattle.trials.specs.Draw.{stepped, apart, picked, cost, costs, rank, ranks, mostCost, dueIn, drawnFor, drawnBlock};
-use super::block::order_block;
+use image::block::order_block;
 use image::layout::BLOCK_SIZE;
 
 fn wide(x: u32) -> u64

@@ -1,5 +1,4 @@
-// What the programs that try the calls have in common: order blocks, drawn or by their parts, and the lines that they print.
-pub mod block; // an order block by its parts
+// What the programs that try the calls have in common: orders that are drawn, and the lines that they print.
 pub mod draw; // the generator, and what is drawn
 pub mod case_lines; // the line of a call
 pub mod soak_rows; // what a long run carries, and the row that is printed of it

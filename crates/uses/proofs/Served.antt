@@ -11,12 +11,12 @@ use Rattle.model.specs.declared.Service.{Service}
 use Rattle.model.specs.Lists.{at}
 use Rattle.model.specs.State.{idle}
 use Rattle.model.specs.Calls.{offerCall, opening, quoting, quotingFormat, offeringFormat}
-use Rattle.model.specs.Runs.{Lent, started, outcome, afterCall, afterAll}
+use Rattle.model.specs.Runs.{Lent, started, outcome, afterCall, afterAll, duringCalls}
 use Rattle.model.specs.Table.{readRow}
 use Rattle.model.specs.Cases.{order, X, Y}
 use Rattle.model.specs.FormatCases.{byFormat, twoStations}
 use Rattle.schedule.specs.Course.{Course, waits, begins, works, leaves, is-out, Nowhere, OnlyAt}
-use Rattle.claims.specs.Images.{duringCalls, NotReopened}
+use Rattle.claims.specs.Images.{NotReopened}
 use Rattle.claims.proofs.Claims.{claims}
 use Rattle.uses.specs.DefiniteLists.{someImage, someReply, opened, whole, ticks, oneCalls, one, Z, longCalls, long, P}
 use Rattle.uses.proofs.Words.{Figure}

@@ -4,10 +4,10 @@ use native.Mathlib.Omega.{arith}
 use lib.ListN.{length, length-append}
 use borrow.Author.Needs.{needs}
 use Rattle.lists.proofs.Stores.{stored-then, stored-all}
 use Rattle.image.proofs.encode.Rows.{length-halves}
 use Rattle.model.specs.Admission.{blockBytes}
-use Rattle.trials.proofs.block.order_block.Statement.{statement}
-use Rattle.trials.proofs.block.order_block.Tie as tie
+use Rattle.image.proofs.block.order_block.Statement.{statement}
+use Rattle.image.proofs.block.order_block.Tie as tie
 
 ranks-long : (c : tie.Start) → length (c .args .ranks) ≡ 8
 ranks-long c = search needs

@@ -1,13 +1,13 @@
 // "An order block is 28 bytes: due-in (4), eight ranks, eight costs (2 each)."
 ghost use mathlib.Core.Path.{_≡_};
 ghost use Rattle.model.specs.Admission.{blockBytes};
-use image::layout::BLOCK_COSTS_AT;
-use image::layout::BLOCK_DUE_IN_AT;
-use image::layout::BLOCK_RANKS_AT;
-use image::layout::BLOCK_SIZE;
-use image::writer::put_eight_bytes;
-use image::writer::put_eight_halves;
-use image::writer::put_u32;
+use super::layout::BLOCK_COSTS_AT;
+use super::layout::BLOCK_DUE_IN_AT;
+use super::layout::BLOCK_RANKS_AT;
+use super::layout::BLOCK_SIZE;
+use super::writer::put_eight_bytes;
+use super::writer::put_eight_halves;
+use super::writer::put_u32;
 
 // The block of an order. Ruled out: the costs before the ranks; a due-in in two bytes.
 pub fn order_block(due_in: u32, ranks: [u8; 8], costs: [u16; 8]) -> [u8; BLOCK_SIZE]

@@ -49,7 +49,7 @@ use Rattle.call_laws.proofs.advances.Exact.{advance-numbers}
 use Rattle.call_laws.proofs.advances.Advance.{advance-sound}
 use Rattle.call_laws.proofs.advances.Kept.{advance-decline-leaves}
 use Rattle.call_laws.proofs.advances.Kept as advances
-use Rattle.claims.proofs.Out.{advanced-count, advanced-clock, kept-advance, state-advance, one-out}
+use Rattle.runs.proofs.Out.{advanced-count, advanced-clock, kept-advance, state-advance, one-out}
 
 pub record Invariant (run : Run) : Type 0 where
   pub history : due.Kept (run .history)

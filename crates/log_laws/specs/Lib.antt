@@ -1,0 +1,2 @@
+-- What a line of a log can hold, in words.
+pub mod Fits

@@ -1,0 +1,88 @@
+-- Document 02, (iv): what a workshop can rely on. Statements only; the proofs are in the crate `log_laws`.
+use mathlib.Core.Path.{_≡_}
+use mathlib.Core.Logic.{_⊎_, _≢_}
+use mathlib.Core.Bool.{false}
+use mathlib.Core.List.{List, [], _∷_, _++_, foldl}
+use Prim.Native.Nat.{ℕ, _≤_, _<_}
+use lib.ListN.{length, getD}
+use Rattle.model.specs.Limits.{maxStations}
+use Rattle.model.specs.Lists.{concat}
+use Rattle.model.specs.Bytes.{word}
+use Rattle.model.specs.State.{fresh}
+use Rattle.model.specs.Layout.{imageSize, replySize, replyTicketAt}
+use Rattle.model.specs.Image.{encode}
+use Rattle.model.specs.Calls.{Result, advanceCall, Call, opening, quoting, offering, quotingFormat, offeringFormat, advancing, perform}
+use Rattle.model.specs.Runs.{Lent, Run, started, afterAll, AllAllowed}
+use Rattle.text.specs.Ascii.{ascii}
+use Rattle.text.specs.Parts.{lines}
+use Rattle.log_model.specs.Limits.{most8, lastLine}
+use Rattle.log_model.specs.Lines.{Line, advanced, callOf, numberOf, ticketOf}
+use Rattle.log_model.specs.Rerun.{lentReply, agrees}
+use Rattle.log_model.specs.Output.{sameLines, busyOf, rerunOutput}
+use Rattle.log_model.specs.Reading.{Fed, fedAll, begun, printed}
+use Rattle.log_model.specs.Written.{writtenLog, linesOfCalls, bookTicks}
+
+-- The orders of a list of calls are bytes, as every call takes them.
+abbrev pub OfBytes : Call → Type 0
+OfBytes (opening n) = Unit {0}
+OfBytes (quoting block) = Unit {0}
+OfBytes (offering block) = (i : ℕ) → getD block i 0 ≤ most8
+OfBytes (quotingFormat f) = Unit {0}
+OfBytes (offeringFormat f) = f .rank ≤ most8
+OfBytes advancing = Unit {0}
+
+abbrev pub AllOfBytes : List Lent → Type 0
+AllOfBytes [] = Unit {0}
+AllOfBytes (lent ∷ later) = OfBytes (lent .call) × AllOfBytes later
+
+-- A log that is written from a list of calls reruns as `same`. All ticks are the book's clock, and busy ticks are those of its stations.
+pub record RerunsAsSame (n : ℕ) (run : Run) (calls : List Lent) : Type 0 where
+  pub ticks : length (bookTicks run calls) ≡ afterAll run calls .history .clock
+  pub prints : rerunOutput (writtenLog n (linesOfCalls run calls)) ≡ sameLines (length (bookTicks run calls)) (busyOf n (bookTicks run calls))
+
+-- Of any list that demand 3 speaks of.
+abbrev pub WrittenReruns : Type 0
+WrittenReruns =
+    (n : ℕ) → 1 ≤ n → n ≤ maxStations
+    → (image : List ℕ) → length image ≡ imageSize
+    → (reply : List ℕ) → length reply ≡ replySize
+    → (calls : List Lent) → AllAllowed (started image n reply) calls → AllOfBytes calls
+    → RerunsAsSame n (started image n reply) calls
+
+-- Each line's number and ticket are those that its call gives, with any reply of 16 bytes lent to it, on the image that the calls before leave.
+abbrev pub Gives : List ℕ → Line → Type 0
+Gives image line = (reply : List ℕ) → length reply ≡ replySize → (perform (callOf line) image reply .number ≡ numberOf line) × (word (perform (callOf line) image reply .reply) replyTicketAt ≡ ticketOf line)
+
+abbrev pub AllGive : List ℕ → List Line → Type 0
+AllGive image [] = Unit {0}
+AllGive image (line ∷ later) = Gives image line × AllGive (perform (callOf line) image lentReply .image) later
+
+-- A log that reruns as `same` is the log of so many stations and these lines, and every recorded number and ticket is the one that the calls give from a
+-- fresh cabinet.
+pub record Recorded (log : List ℕ) : Type 0 where
+  pub n : ℕ
+  pub n-low : 1 ≤ n
+  pub n-high : n ≤ maxStations
+  pub calls : List Line
+  pub is-log : log ≡ writtenLog n calls
+  pub given : AllGive (encode (fresh n)) calls
+
+abbrev pub SameMeans : Type 0
+SameMeans = (log rest : List ℕ) → rerunOutput log ≡ ascii "same\n" ++ rest → Recorded log
+
+-- "a `T` whose advance is declined disagrees", whatever ticket it records.
+abbrev pub DeclinedDisagrees : Type 0
+DeclinedDisagrees = (image : List ℕ) (ticket : ℕ) → advanceCall image lentReply .number ≢ 0 → agrees (advanced ticket) (advanceCall image lentReply) ≡ false
+
+-- What has been fed determines the state, whatever the chunks were.
+abbrev pub WhateverChunks : Type 0
+WhateverChunks = (f : Fed) (chunks : List (List ℕ)) → foldl fedAll f chunks ≡ fedAll f (concat chunks)
+
+-- From any image, what is printed when all of a log has been fed is what is printed for the log; nothing is printed where lines are no longer counted.
+abbrev pub readLog : List ℕ → List ℕ → List ℕ
+readLog image log = printed (fedAll (record { reading = begun; image = image }) log .reading)
+
+abbrev pub ReadsAsWhole : Type 0
+ReadsAsWhole =
+    (image : List ℕ) → length image ≡ imageSize
+    → (log : List ℕ) → (readLog image log ≡ rerunOutput log) ⊎ ((readLog image log ≡ []) × (lastLine ≤ length (lines log)))
