@@ -7,3 +7,4 @@ pub mod Output
 pub mod Reading
 pub mod Written
 pub mod Meaning
+pub mod Cases

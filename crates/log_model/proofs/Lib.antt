@@ -1,0 +1,3 @@
+-- What the definitions of a log mean, and the worked cases.
+pub mod Rounding
+pub mod Cases
