@@ -6,7 +6,7 @@ use native.Mathlib.Nat.{add-mul, mod-lt, div-add-mod'}
 use native.Mathlib.Omega.{arith}
 use lib.Dec.{leb}
 use borrow.Author.Tests.{ne-eqb, leb-true, leb-false}
-use Rattle.log_model.specs.Rounding.{nearest, thousandths, Rounded, RoundsToNearest, NoneWithoutTicks}
+use Rattle.log_model.specs.Rounding.{nearest, thousandths, Rounded, ThousandthsMean}
 
 module _ (a b : ℕ) (some : 1 ≤ b) where
   abbrev quotient : ℕ
@@ -32,12 +32,12 @@ module _ (a b : ℕ) (some : 1 ≤ b) where
   unfolding nearest
   nearest-within = rounded-by (leb b (2 * over)) refl
 
-pub rounds-to-nearest : RoundsToNearest
+to-nearest : (busy all : ℕ) → 1 ≤ all → Rounded busy all (thousandths busy all)
 unfolding thousandths
-rounds-to-nearest busy all some =
+to-nearest busy all some =
     let within = nearest-within (busy * 1000) all some in
     rw (ne-eqb all 0 (λ e. omega arith)) (record { not-above = within .0; not-below = within .1 })
 
-pub none-without-ticks : NoneWithoutTicks
+pub thousandths-mean : ThousandthsMean
 unfolding thousandths
-none-without-ticks busy = refl
+thousandths-mean = record { to-nearest = to-nearest; no-tick = λ busy. refl }

@@ -1,12 +1,12 @@
 -- Document 02, (iv): what a workshop can rely on. Statements only; the proofs are in the crate `log_laws`.
 use mathlib.Core.Path.{_≡_}
 use mathlib.Core.Logic.{_⊎_, _≢_}
-use mathlib.Core.Bool.{false}
+use mathlib.Core.Bool.{Bool, true, false}
 use mathlib.Core.List.{List, [], _∷_, _++_, foldl}
-use Prim.Native.Nat.{ℕ, _≤_, _<_}
+use Prim.Native.Nat.{ℕ, _+_, _≤_, _<_}
 use lib.ListN.{length, getD}
 use Rattle.model.specs.Limits.{maxStations}
-use Rattle.model.specs.Lists.{concat}
+use Rattle.model.specs.Lists.{at, concat}
 use Rattle.model.specs.Bytes.{word}
 use Rattle.model.specs.State.{fresh}
 use Rattle.model.specs.Layout.{imageSize, replySize, replyTicketAt}
@@ -14,11 +14,11 @@ use Rattle.model.specs.Image.{encode}
 use Rattle.model.specs.Calls.{Result, advanceCall, Call, opening, quoting, offering, quotingFormat, offeringFormat, advancing, perform}
 use Rattle.model.specs.Runs.{Lent, Run, started, afterAll, AllAllowed}
 use Rattle.text.specs.Ascii.{ascii}
-use Rattle.text.specs.Parts.{lines}
+use Rattle.text.specs.Parts.{lineFeed, parts, lastOf, lines}
 use Rattle.log_model.specs.Limits.{most8, lastLine}
 use Rattle.log_model.specs.Lines.{Line, advanced, callOf, numberOf, ticketOf}
-use Rattle.log_model.specs.Rerun.{lentReply, agrees}
-use Rattle.log_model.specs.Output.{sameLines, busyOf, rerunOutput}
+use Rattle.log_model.specs.Rerun.{lentReply, agrees, ticksOf}
+use Rattle.log_model.specs.Output.{formed, unended, stationsIn, callsIn, refusedLine, differsLine, sameLines, busyOf, rerunOutput}
 use Rattle.log_model.specs.Reading.{Fed, fedAll, begun, printed}
 use Rattle.log_model.specs.Written.{writtenLog, linesOfCalls, bookTicks}
 
@@ -69,6 +69,34 @@ pub record Recorded (log : List ℕ) : Type 0 where
 
 abbrev pub SameMeans : Type 0
 SameMeans = (log rest : List ℕ) → rerunOutput log ≡ ascii "same\n" ++ rest → Recorded log
+
+-- Whether each line of a log has its form, in turn, with what stands after the last line feed.
+abbrev pub forms : List ℕ → List Bool
+forms log = formed (lines log) ++ unended (lastOf (parts lineFeed log))
+
+-- The image that the calls of lines leave.
+abbrev pub imageAfter : List ℕ → List Line → List ℕ
+imageAfter image [] = image
+imageAfter image (line ∷ later) = imageAfter (perform (callOf line) image lentReply .image) later
+
+-- What is printed, by the lines: which of the three it is, and which line is named.
+pub record Verdicts (log : List ℕ) (n : ℕ) (calls : List Line) : Type 0 where
+  -- "the first such line anywhere in the log is printed as `refused 21` and its line number in place of any result"
+  pub refused : (k : ℕ) → at true (forms log) k ≡ false → ((j : ℕ) → j < k → at true (forms log) j ≡ true) → rerunOutput log ≡ refusedLine k
+  -- "`differs` and the number of the first line that disagrees"; the `N` line is line 1.
+  pub differs :
+      ((k : ℕ) → at true (forms log) k ≡ true)
+      → (before later : List Line) (line : Line) → calls ≡ before ++ (line ∷ later)
+      → AllGive (encode (fresh n)) before → (Gives (imageAfter (encode (fresh n)) before) line → ⊥)
+      → rerunOutput log ≡ differsLine (length before + 2)
+  -- "prints `same`"; "After `same`, for each station one line: station, busy ticks, and" the share.
+  pub same :
+      ((k : ℕ) → at true (forms log) k ≡ true)
+      → AllGive (encode (fresh n)) calls
+      → rerunOutput log ≡ sameLines (length (ticksOf n calls)) (busyOf n (ticksOf n calls))
+
+abbrev pub PrintsAsAsked : Type 0
+PrintsAsAsked = (log : List ℕ) → Verdicts log (stationsIn log) (callsIn log)
 
 -- "a `T` whose advance is declined disagrees", whatever ticket it records.
 abbrev pub DeclinedDisagrees : Type 0

@@ -19,8 +19,7 @@ pub record Rounded (busy all figure : ℕ) : Type 0 where
   pub not-above : 2 * (figure * all) ≤ 2 * (busy * 1000) + all
   pub not-below : 2 * (busy * 1000) < 2 * (figure * all) + all
 
-abbrev pub RoundsToNearest : Type 0
-RoundsToNearest = (busy all : ℕ) → 1 ≤ all → Rounded busy all (thousandths busy all)
-
-abbrev pub NoneWithoutTicks : Type 0
-NoneWithoutTicks = (busy : ℕ) → thousandths busy 0 ≡ 0
+-- "0 when no tick passed"
+pub record ThousandthsMean : Type 0 where
+  pub to-nearest : (busy all : ℕ) → 1 ≤ all → Rounded busy all (thousandths busy all)
+  pub no-tick : (busy : ℕ) → thousandths busy 0 ≡ 0

@@ -8,10 +8,10 @@ use super::answer::refused;
 use super::task_lines::LINE_FEED;
 use super::task_lines::read_tasks;
 use super::words::Value;
-use text::parts::part_end;
 use super::words::value_of;
 use model::limits::MAX_STATIONS;
 use plan_model::limits::MAX_INPUT;
+use text::parts::part_end;
 
 // Questions 15 to 17, of any bytes: "first "no" decides". Ruled out: 17 where the first line is no number of stations; a table
 // for an input of 16,385 bytes.

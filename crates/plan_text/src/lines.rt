@@ -4,8 +4,8 @@ ghost use Prim.Native.Nat.{_≤_};
 ghost use Rattle.plan_model.specs.Limits.{maxNumbers};
 ghost use Rattle.plan_text.specs.Lines.{malformedLine, lineOf};
 use super::words::Value;
-use text::parts::part_end;
 use super::words::value_of;
+use text::parts::part_end;
 
 const SPACE: u8 = b' ';
 

@@ -12,11 +12,11 @@ use super::answer::Parsed;
 use super::answer::refused;
 use super::lines::MAX_NUMBERS;
 use super::lines::read_line;
-use text::parts::part_end;
 use plan_core::records::no_tasks;
 use plan_model::Task;
 use plan_model::Verdict;
 use plan_model::limits::MAX_TASKS;
+use text::parts::part_end;
 
 pub const LINE_FEED: u8 = b'\n';
 

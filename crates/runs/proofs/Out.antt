@@ -115,7 +115,7 @@ module _ (h : History) (kept : Kept h) where
   pub kept-advance : Kept (advanceIn h)
   kept-advance = subst Kept (sym advance-passes) (kept-pass ticked (startsIn h) (kept-starts h kept) may)
 
-  same-services : startsIn h .services ≡ starts (stateOf h) .services
+  pub same-services : startsIn h .services ≡ starts (stateOf h) .services
   same-services = unfold stateOf in ap (λ (s : State). s .services) (state-starts h)
 
   pub state-advance : stateOf (advanceIn h) ≡ advance (stateOf h)
