@@ -12,6 +12,13 @@ use Rattle.call_laws.proofs.offers.DefaultDueIn.{zero-stands-for-default}
 use Rattle.call_laws.proofs.formats.Exact.{format-as-block}
 use Rattle.call_laws.proofs.advances.Exact.{advance-numbers}
 use Rattle.call_laws.proofs.advances.Kept.{advance-keeps-sound}
+use Rattle.log_model.proofs.Rounding.{thousandths-mean}
+use Rattle.log_model.proofs.Agreement.{declined-disagrees}
+use Rattle.log_laws.proofs.Verdicts.{prints-as-asked}
+use Rattle.log_laws.proofs.Written.{written-reruns}
+use Rattle.log_laws.proofs.Same.{same-means}
+use Rattle.log_laws.proofs.Feeding.{whatever-chunks}
+use Rattle.log_laws.proofs.Whole.{reads-as-whole}
 use Rattle.claims.specs.Images.{TicksAsAsked, Timely, ServedInFull}
 use Rattle.claims.specs.Claims.{Claims}
 use Rattle.claims.proofs.Demand3.{demand-3}
@@ -33,6 +40,13 @@ claims =
       format-quote-gives-offer = format-quote-gives-offer;
       long-sides = long-sides-halve;
       default-due-in = zero-stands-for-default;
+      rerun-prints = prints-as-asked;
+      written-logs-rerun = written-reruns;
+      same-means = same-means;
+      declined-disagrees = declined-disagrees;
+      thousandths-mean = thousandths-mean;
+      whatever-chunks = whatever-chunks;
+      reads-as-whole = reads-as-whole;
       ticks = ticks;
       ticks-over-runs = after-every-list TicksAsAsked ticks-of;
       timely = timely;

@@ -1,5 +1,6 @@
 -- What a stranger may rely on, in one record. The contracts of the calls say that each does what `openCall`, `quoteCall`, `offerCall`, `quoteFormatCall`,
--- `offerFormatCall` or `advanceCall` says, and those of plan that it does what `planNumber`, `afterPlan` and `planOutput` say; these are theorems about the same definitions. Each has a use in the
+-- `offerFormatCall` or `advanceCall` says, those of plan that it does what `planNumber`, `afterPlan` and `planOutput` say, and those of the log's reader
+-- that it does what `fedAll` and `printed` say; these are theorems about the same definitions. Each has a use in the
 -- crate `uses`: a definite case from which everything that it says is taken, in figures.
 use mathlib.Core.Path.{_≡_}
 use mathlib.Core.Bool.{true}
@@ -12,6 +13,9 @@ use Rattle.plan_model.specs.Meaning.{Meaning, Leaves, NotRead}
 use Rattle.plan_model.specs.Overlap.{EveryOverlap}
 use Rattle.plan_model.specs.Thesis.{OnTimeByThesis}
 use Rattle.plan_model.specs.Cases.{isPrinted, chapterSix, isThesisRow, thesisRows, largestResponse}
+use Rattle.log_model.specs.Rerun.{DeclinedDisagrees}
+use Rattle.log_model.specs.Rounding.{ThousandthsMean}
+use Rattle.log_laws.specs.Meaning.{WrittenReruns, SameMeans, PrintsAsAsked, WhateverChunks, ReadsAsWhole}
 use Rattle.call_laws.specs.OpenExact.{OpensFresh}
 use Rattle.call_laws.specs.OfferExact.{Exact}
 use Rattle.call_laws.specs.OfferKept.{OfferKeepsSound, QuoteGivesOffer, FormatQuoteGivesOffer}
@@ -43,6 +47,16 @@ pub record Claims : Type 0 where
   pub long-sides : LongSidesHalve
   -- Document 02, (iii): "Due-in 0 is to stand for 9,000 ticks. Quote, offer and format orders follow."
   pub default-due-in : ZeroStandsForDefault
+  -- Document 02, (iv): which of the three is printed for a log, and which line is named; a log that is written from a list of calls; what `same` says of a log.
+  pub rerun-prints : PrintsAsAsked
+  pub written-logs-rerun : WrittenReruns
+  pub same-means : SameMeans
+  -- Document 02, (iv): "a `T` whose advance is declined disagrees"; "rounded to nearest, a half upward; 0 when no tick passed"
+  pub declined-disagrees : DeclinedDisagrees
+  pub thousandths-mean : ThousandthsMean
+  -- Logs of any length: what has been fed determines the state, and what is printed of it is what is printed for the log.
+  pub whatever-chunks : WhateverChunks
+  pub reads-as-whole : ReadsAsWhole
   -- "demand 2's starts": the course of each tick, when an order may start first, and the way of each order, of every image of bytes and after every list of calls.
   pub ticks : OfEveryImage TicksAsAsked
   pub ticks-over-runs : AfterEveryList TicksAsAsked

@@ -51,7 +51,7 @@ use Rattle.log_model.specs.Limits.{most8, most16, most32}
 use Rattle.log_model.specs.Lines.{Line, offered, advanced, toEight, callOf, numberOf, ticketOf}
 use Rattle.log_model.specs.Rerun.{lentReply}
 use Rattle.log_model.specs.Written.{canHold, offerLine, linesFor, duringIn}
-use Rattle.log_model.specs.Meaning.{OfBytes}
+use Rattle.log_laws.specs.Meaning.{OfBytes}
 use Rattle.log_laws.specs.Fits.{NoneAbove, OfferFits, LineFits}
 use Rattle.log_laws.proofs.Replies.{offer-number-fits, offer-reply, offer-ticket-fits, advance-reply, advance-ticket-fits}
 

@@ -13,12 +13,12 @@ use Rattle.model.specs.Bytes.{word}
 use Rattle.model.specs.State.{fresh}
 use Rattle.model.specs.Layout.{replySize, replyTicketAt}
 use Rattle.model.specs.Image.{encode}
-use Rattle.model.specs.Calls.{Result, advanceCall, perform}
+use Rattle.model.specs.Calls.{Result, perform}
 use Rattle.schedule.proofs.Laws.{and-both, test}
-use Rattle.log_model.specs.Lines.{Line, advanced, callOf, numberOf, ticketOf}
+use Rattle.log_model.specs.Lines.{Line, callOf, numberOf, ticketOf}
 use Rattle.log_model.specs.Rerun.{lentReply, agrees, firstDifference, differsAt}
 use Rattle.log_model.specs.Output.{firstFalse, refusedAt, stationsIn, callsIn, refusedLine, differsLine, sameLines, resultOf, rerunOutput}
-use Rattle.log_model.specs.Meaning.{Gives, AllGive, forms, imageAfter, PrintsAsAsked, DeclinedDisagrees}
+use Rattle.log_laws.specs.Meaning.{Gives, AllGive, forms, imageAfter, PrintsAsAsked}
 use Rattle.log_laws.proofs.Replies.{reply-makes-no-difference}
 
 -- ---- the first false
@@ -91,7 +91,3 @@ prints-as-asked log =
           rw (of-the-form log all, first, ne-eqb (length before + 2) 0 (λ z. omega arith));
       same = λ all given. rw (of-the-form log all, none-other (callsIn log) 2 (encode (fresh (stationsIn log))) given);
     }
-
-pub declined-disagrees : DeclinedDisagrees
-unfolding agrees
-declined-disagrees image ticket declined = rw (ne-eqb (advanceCall image lentReply .number) 0 declined)

@@ -23,7 +23,7 @@ use Rattle.log_model.specs.Lines.{Line, callOf, numberOf, ticketOf}
 use Rattle.log_model.specs.Rerun.{lentReply, lentOf, agrees, firstDifference, differsAt, ticksOf}
 use Rattle.log_model.specs.Output.{refusedAt, stationsIn, callsIn, sameLines, busyOf, resultOf, rerunOutput}
 use Rattle.log_model.specs.Written.{writtenLog, linesFor, linesOfCalls, duringIn, bookTicks}
-use Rattle.log_model.specs.Meaning.{AllOfBytes, RerunsAsSame, WrittenReruns}
+use Rattle.log_laws.specs.Meaning.{AllOfBytes, RerunsAsSame, WrittenReruns}
 use Rattle.log_laws.specs.Fits.{LineFits, AllFit}
 use Rattle.log_laws.proofs.Held.{Logged, unlogged, logged, each-logged}
 use Rattle.log_laws.proofs.RoundTrip.{read-back}

@@ -1,2 +1,3 @@
--- What a line of a log can hold, in words.
+-- What a line of a log can hold, and what a workshop can rely on, in plain terms.
 pub mod Fits
+pub mod Meaning

@@ -1,1 +1,1 @@
-// Theorems only: what a rerun of a log means. The statements are in `log_model`, the proofs in proofs/.
+// Theorems only: what a rerun of a log means. Statements are in specs/, proofs in proofs/.

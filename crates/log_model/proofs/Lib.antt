@@ -1,3 +1,4 @@
 -- What the definitions of a log mean, and the worked cases.
 pub mod Rounding
+pub mod Agreement
 pub mod Cases

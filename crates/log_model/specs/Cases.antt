@@ -30,7 +30,7 @@ isRerun (log reruns output) = same (rerunOutput log) output
 abbrev pub idleTicks : ℕ → List ℕ
 idleTicks k = concat (replicate k (ascii "T 0\n"))
 
--- "an empty log gets 21 at line 1"; no tick; a tick without an order.
+-- Document 02, (iv): "an empty log gets 21 at line 1"; no tick; a tick without an order.
 abbrev pub shortLogs : List Rerunning
 shortLogs =
     (ascii "" reruns ascii "refused 21 1\n")
@@ -45,7 +45,7 @@ servedLogs =
     ∷ (ascii "N 2\nO 100 7 9 1 2 0 1\nT 0\nT 0\nT 1\n" reruns ascii "same\n1 1 333\n2 2 667\n")
     ∷ []
 
--- "rounded to nearest, a half upward": 1 of 16 ticks is 62.5 thousandths, 3 of 16 are 187.5.
+-- Document 02, (iv): "rounded to nearest, a half upward": 1 of 16 ticks is 62.5 thousandths, 3 of 16 are 187.5.
 abbrev pub halfLogs : List Rerunning
 halfLogs =
     (ascii "N 1\nO 0 0 1 0 1\nT 1\n" ++ idleTicks 15 reruns ascii "same\n1 1 63\n")
@@ -63,7 +63,8 @@ differingLogs =
     ∷ (ascii "N 1\nO 0 5 1 0 1\nT 0\nT 0\n" reruns ascii "differs 3\n")
     ∷ []
 
--- "the first such line anywhere in the log is printed as `refused 21` and its line number in place of any result": after a line that disagrees too.
+-- Document 02, (iv): "the first such line anywhere in the log is printed as `refused 21` and its line number in place of any result": after a line that disagrees
+-- too.
 abbrev pub otherLogs : List Rerunning
 otherLogs =
     (ascii "N 1\nT 7\nT 0\nX\n" reruns ascii "refused 21 4\n")
@@ -80,7 +81,7 @@ otherLogs =
     ∷ (ascii "N 1\nO 0 5 2 0 1 0\n" reruns ascii "refused 21 2\n")
     ∷ []
 
--- "a value too large for its field": the largest that each field holds, and one more.
+-- Document 02, (iv): "a value too large for its field": the largest that each field holds, and one more.
 abbrev pub fieldLogs : List Rerunning
 fieldLogs =
     (ascii "N 1\nO 4294967295 255 65535 6 0\n" reruns ascii "same\n1 0 0\n")

@@ -6,5 +6,4 @@ pub mod Rerun
 pub mod Output
 pub mod Reading
 pub mod Written
-pub mod Meaning
 pub mod Cases

@@ -1,7 +1,7 @@
 -- The figures of a log.
 use Prim.Native.Nat.{ℕ}
 
--- "a value too large for its field": due-in, number and ticket have 32 bits, a cost 16, a rank 8.
+-- Document 02, (iv): "a value too large for its field": due-in, number and ticket have 32 bits, a cost 16, a rank 8.
 abbrev pub most8 : ℕ
 most8 = 255
 

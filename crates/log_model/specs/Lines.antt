@@ -13,7 +13,7 @@ use Rattle.text.specs.Number.{isDecimal, valueOf}
 use Rattle.text.specs.Parts.{words}
 use Rattle.log_model.specs.Limits.{most8, most16, most32}
 
--- "all single-spaced decimals without leading zeros"; "a value too large for its field"
+-- Document 02, (iv): "all single-spaced decimals without leading zeros"; "a value too large for its field"
 unfoldable pub fits : ℕ → List ℕ → Bool
 fits most word = isDecimal word && leb (valueOf word) most
 
@@ -32,21 +32,21 @@ hasForm letter fields line = same (getD (words line) 0 []) letter && fitAll fiel
 unfoldable pub valuesOf : List ℕ → List ℕ
 valuesOf line = map valueOf (drop 1 (words line))
 
--- "first `N` and the station count"; "a station count outside 1 to 8"
+-- Document 02, (iv): "first `N` and the station count"; "a station count outside 1 to 8"
 unfoldable pub stationsOf : List ℕ → ℕ
 stationsOf line = getD (valuesOf line) 0 0
 
 unfoldable pub isStations : List ℕ → Bool
 isStations line = hasForm (ascii "N") (most32 ∷ []) line && within 1 maxStations (stationsOf line)
 
--- "then a line `O` with due-in, N ranks, N costs, and the recorded number and ticket"
+-- Document 02, (iv): "then a line `O` with due-in, N ranks, N costs, and the recorded number and ticket"
 unfoldable pub orderFields : ℕ → List ℕ
 orderFields n = most32 ∷ (replicate n most8 ++ (replicate n most16 ++ (most32 ∷ most32 ∷ [])))
 
 unfoldable pub isOffer : ℕ → List ℕ → Bool
 isOffer n line = hasForm (ascii "O") (orderFields n) line
 
--- "or a line `T` with the recorded ticket out"
+-- Document 02, (iv): "or a line `T` with the recorded ticket out"
 unfoldable pub isAdvance : List ℕ → Bool
 isAdvance line = hasForm (ascii "T") (most32 ∷ []) line
 

@@ -1,5 +1,5 @@
 -- A log of any length, read byte by byte: what has been fed so far determines the state, which does not grow. What is printed of the state at the end is
--- what `Output` says of the whole log (`ReadsAsWhole` of specs/Meaning.antt).
+-- what `Output` says of the whole log (`ReadsAsWhole` of the crate `log_laws`).
 use mathlib.Core.Bool.{Bool, true, false, cond, not, _&&_, _||_}
 use mathlib.Core.List.{List, [], _∷_, _++_}
 use Prim.Native.Nat.{ℕ, zero, suc, _+_}

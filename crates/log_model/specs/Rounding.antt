@@ -5,11 +5,11 @@ use Prim.Native.Nat.{ℕ, _+_, _*_, _/_, _%_, _≤_, _<_}
 use lib.Dec.{leb}
 use Rattle.model.specs.Lists.{isZero}
 
--- a / b, "rounded to nearest, a half upward": up where what is left over is at least half of b.
+-- Document 02, (iv): "rounded to nearest, a half upward": a / b, and up where what is left over is at least half of b.
 unfoldable pub nearest : ℕ → ℕ → ℕ
 nearest a b = a / b + cond (leb b (2 * (a % b))) 1 0
 
--- "busy ticks × 1,000 / all ticks, rounded to nearest, a half upward; 0 when no tick passed"
+-- Document 02, (iv): "busy ticks × 1,000 / all ticks, rounded to nearest, a half upward; 0 when no tick passed"
 unfoldable pub thousandths : ℕ → ℕ → ℕ
 thousandths busy all = cond (isZero all) 0 (nearest (busy * 1000) all)
 
@@ -19,7 +19,7 @@ pub record Rounded (busy all figure : ℕ) : Type 0 where
   pub not-above : 2 * (figure * all) ≤ 2 * (busy * 1000) + all
   pub not-below : 2 * (busy * 1000) < 2 * (figure * all) + all
 
--- "0 when no tick passed"
+-- Of any ticks. Document 02, (iv): "0 when no tick passed"
 pub record ThousandthsMean : Type 0 where
   pub to-nearest : (busy all : ℕ) → 1 ≤ all → Rounded busy all (thousandths busy all)
   pub no-tick : (busy : ℕ) → thousandths busy 0 ≡ 0

@@ -22,15 +22,15 @@ use Rattle.text.specs.Parts.{lineFeed}
 use Rattle.log_model.specs.Limits.{most8, most16, most32}
 use Rattle.log_model.specs.Lines.{Line, offered, advanced}
 
--- "all single-spaced decimals without leading zeros, each line ended by a line feed"
+-- Document 02, (iv): "all single-spaced decimals without leading zeros, each line ended by a line feed"
 abbrev pub fieldBytes : ℕ → List ℕ
 fieldBytes value = ascii " " ++ decimal value
 
 unfoldable pub lineBytes : List ℕ → List ℕ → List ℕ
 lineBytes letter values = letter ++ concat (map fieldBytes values)
 
--- "first `N` and the station count, then a line `O` with due-in, N ranks, N costs, and the recorded number and ticket, or a line `T` with the recorded
--- ticket out"
+-- Document 02, (iv): "first `N` and the station count, then a line `O` with due-in, N ranks, N costs, and the recorded number and ticket, or a line `T` with the
+-- recorded ticket out"
 abbrev pub stationsBytes : ℕ → List ℕ
 stationsBytes n = lineBytes (ascii "N") (n ∷ [])
 
@@ -58,7 +58,7 @@ canHold n b =
 unfoldable pub offerLine : ℕ → Block → Result → Line
 offerLine n b result = offered (b .«due_in») (take n (b .ranks)) (take n (b .costs)) (result .number) (word (result .reply) replyTicketAt)
 
--- The lines of a call, by what it gave: one of each offer that a line can hold, "done or declined", and of each done advance; no other call changes the image.
+-- The lines of a call, by what it gave: one of each offer that a line can hold, done or declined, and of each done advance; no other call changes the image.
 -- An order by format stands as the block that it counts as.
 abbrev pub offerLines : Bool → ℕ → Block → Lent → Result → List Line
 offerLines whole n b lent result = cond (whole && canHold n b && eqb (length (lent .reply)) replySize) (offerLine n b result ∷ []) []

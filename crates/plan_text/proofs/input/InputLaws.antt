@@ -18,7 +18,7 @@ use Rattle.plan_text.specs.Answer.{refused}
 use Rattle.plan_text.specs.TaskLines.{tableOf}
 use Rattle.plan_text.specs.Parsed.{parsed}
 use Rattle.text.proofs.parts.PartLaws.{partsFrom, Ended, from-inside, from-past, parts-some}
-use Rattle.plan_text.proofs.words.WordLaws.{outside}
+use Rattle.text.proofs.parts.DigitLaws.{outside}
 
 -- A part that another follows is a line.
 lines-after : (p : List ℕ) (ps : List (List ℕ)) → 0 < length ps → linesOf (p ∷ ps) ≡ p ∷ linesOf ps

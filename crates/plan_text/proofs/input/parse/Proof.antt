@@ -4,7 +4,8 @@ use native.Mathlib.Omega.{arith}
 use borrow.Author.Needs.{needs}
 use Rattle.model.specs.Limits.{maxStations}
 use Rattle.text.proofs.parts.PartLaws.{ended}
-use Rattle.plan_text.proofs.words.WordLaws.{bounds, was-number, was-malformed}
+use Rattle.text.proofs.parts.DigitLaws.{bounds}
+use Rattle.plan_text.proofs.words.WordLaws.{was-number, was-malformed}
 use Rattle.plan_text.proofs.input.InputLaws.{too-long, no-first-line, no-number, out-of-range, stations-read}
 use Rattle.plan_text.proofs.input.parse.Statement.{statement}
 use Rattle.plan_text.proofs.input.parse.Tie as tie

@@ -4,7 +4,8 @@ use native.Mathlib.Omega.{arith}
 use borrow.Author.Needs.{needs}
 use lib.ListN.{length}
 use Rattle.plan_model.specs.Limits.{maxDigits}
-use Rattle.plan_text.proofs.words.WordLaws.{bounds, Digits, digits-none, digits-more, next-digit, wrong-length, leading-zero, other-byte, all-digits}
+use Rattle.text.proofs.parts.DigitLaws.{bounds, Digits, digits-none, digits-more}
+use Rattle.plan_text.proofs.words.WordLaws.{next-digit, wrong-length, leading-zero, other-byte, all-digits}
 use Rattle.plan_text.proofs.words.value_of.Statement.{statement}
 use Rattle.plan_text.proofs.words.value_of.Tie as tie
 

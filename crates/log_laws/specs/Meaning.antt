@@ -1,6 +1,6 @@
--- Document 02, (iv): what a workshop can rely on. Statements only; the proofs are in the crate `log_laws`.
+-- Document 02, (iv): what a workshop can rely on.
 use mathlib.Core.Path.{_≡_}
-use mathlib.Core.Logic.{_⊎_, _≢_}
+use mathlib.Core.Logic.{_⊎_}
 use mathlib.Core.Bool.{Bool, true, false}
 use mathlib.Core.List.{List, [], _∷_, _++_, foldl}
 use Prim.Native.Nat.{ℕ, _+_, _≤_, _<_}
@@ -11,16 +11,16 @@ use Rattle.model.specs.Bytes.{word}
 use Rattle.model.specs.State.{fresh}
 use Rattle.model.specs.Layout.{imageSize, replySize, replyTicketAt}
 use Rattle.model.specs.Image.{encode}
-use Rattle.model.specs.Calls.{Result, advanceCall, Call, opening, quoting, offering, quotingFormat, offeringFormat, advancing, perform}
+use Rattle.model.specs.Calls.{Call, opening, quoting, offering, quotingFormat, offeringFormat, advancing, perform}
 use Rattle.model.specs.Runs.{Lent, Run, started, afterAll, AllAllowed}
 use Rattle.text.specs.Ascii.{ascii}
 use Rattle.text.specs.Parts.{lineFeed, parts, lastOf, lines}
 use Rattle.log_model.specs.Limits.{most8, lastLine}
-use Rattle.log_model.specs.Lines.{Line, advanced, callOf, numberOf, ticketOf}
-use Rattle.log_model.specs.Rerun.{lentReply, agrees, ticksOf}
+use Rattle.log_model.specs.Lines.{Line, callOf, numberOf, ticketOf}
+use Rattle.log_model.specs.Rerun.{lentReply, ticksOf}
 use Rattle.log_model.specs.Output.{formed, unended, stationsIn, callsIn, refusedLine, differsLine, sameLines, busyOf, rerunOutput}
 use Rattle.log_model.specs.Reading.{Fed, fedAll, begun, printed}
 use Rattle.log_model.specs.Written.{writtenLog, linesOfCalls, bookTicks}
 
 -- The orders of a list of calls are bytes, as every call takes them.
 abbrev pub OfBytes : Call → Type 0
@@ -57,18 +57,16 @@ abbrev pub AllGive : List ℕ → List Line → Type 0
 AllGive image [] = Unit {0}
 AllGive image (line ∷ later) = Gives image line × AllGive (perform (callOf line) image lentReply .image) later
 
--- A log that reruns as `same` is the log of so many stations and these lines, and every recorded number and ticket is the one that the calls give from a
--- fresh cabinet.
-pub record Recorded (log : List ℕ) : Type 0 where
-  pub n : ℕ
+-- A log that reruns as `same` is the one that is written of its stations and calls, and every recorded number and ticket is the one that the calls give from
+-- a fresh cabinet.
+pub record Recorded (log : List ℕ) (n : ℕ) (calls : List Line) : Type 0 where
   pub n-low : 1 ≤ n
   pub n-high : n ≤ maxStations
-  pub calls : List Line
   pub is-log : log ≡ writtenLog n calls
   pub given : AllGive (encode (fresh n)) calls
 
 abbrev pub SameMeans : Type 0
-SameMeans = (log rest : List ℕ) → rerunOutput log ≡ ascii "same\n" ++ rest → Recorded log
+SameMeans = (log rest : List ℕ) → rerunOutput log ≡ ascii "same\n" ++ rest → Recorded log (stationsIn log) (callsIn log)
 
 -- Whether each line of a log has its form, in turn, with what stands after the last line feed.
 abbrev pub forms : List ℕ → List Bool
@@ -81,15 +79,15 @@ imageAfter image (line ∷ later) = imageAfter (perform (callOf line) image lent
 
 -- What is printed, by the lines: which of the three it is, and which line is named.
 pub record Verdicts (log : List ℕ) (n : ℕ) (calls : List Line) : Type 0 where
-  -- "the first such line anywhere in the log is printed as `refused 21` and its line number in place of any result"
+  -- Document 02, (iv): "the first such line anywhere in the log is printed as `refused 21` and its line number in place of any result"
   pub refused : (k : ℕ) → at true (forms log) k ≡ false → ((j : ℕ) → j < k → at true (forms log) j ≡ true) → rerunOutput log ≡ refusedLine k
-  -- "`differs` and the number of the first line that disagrees"; the `N` line is line 1.
+  -- Document 02, (iv): "`differs` and the number of the first line that disagrees"; the `N` line is line 1.
   pub differs :
       ((k : ℕ) → at true (forms log) k ≡ true)
       → (before later : List Line) (line : Line) → calls ≡ before ++ (line ∷ later)
       → AllGive (encode (fresh n)) before → (Gives (imageAfter (encode (fresh n)) before) line → ⊥)
       → rerunOutput log ≡ differsLine (length before + 2)
-  -- "prints `same`"; "After `same`, for each station one line: station, busy ticks, and" the share.
+  -- Document 02, (iv): "prints `same`"; "After `same`, for each station one line"
   pub same :
       ((k : ℕ) → at true (forms log) k ≡ true)
       → AllGive (encode (fresh n)) calls
@@ -97,10 +95,6 @@ pub record Verdicts (log : List ℕ) (n : ℕ) (calls : List Line) : Type 0 wher
 
 abbrev pub PrintsAsAsked : Type 0
 PrintsAsAsked = (log : List ℕ) → Verdicts log (stationsIn log) (callsIn log)
-
--- "a `T` whose advance is declined disagrees", whatever ticket it records.
-abbrev pub DeclinedDisagrees : Type 0
-DeclinedDisagrees = (image : List ℕ) (ticket : ℕ) → advanceCall image lentReply .number ≢ 0 → agrees (advanced ticket) (advanceCall image lentReply) ≡ false
 
 -- What has been fed determines the state, whatever the chunks were.
 abbrev pub WhateverChunks : Type 0
