@@ -1,7 +1,7 @@
 -- A marked and sound image is written as it was read: its header, each entry, each live record and the zeros that are left.
-use mathlib.Core.Path.{_≡_, refl, sym, ap, ap₂, _∙_}
-use mathlib.Core.Bool.{true, true≢false}
-use mathlib.Core.List.{List, [], _∷_, _++_}
+use mathlib.Core.Path.{_≡_, sym, ap, ap₂, _∙_}
+use mathlib.Core.Bool.{true}
+use mathlib.Core.List.{List, _++_}
 use Prim.Native.Nat.{ℕ, _+_, _*_, _-_, _≤_, _<_}
 use native.Mathlib.Omega.{arith}
 use lib.ListN.{length, take, drop, length-drop, take-append-drop}
@@ -15,6 +15,7 @@ use Rattle.model.specs.Layout.{mark, version, versionAt, imageSize, headerZeroA
 use Rattle.model.specs.Image.{marked, liveCount, serviceOf, serviceBytes, orderOf, orderBytes, decode, encode}
 use Rattle.model.specs.Soundness.{unusedRecordsZero}
 use Rattle.lists.proofs.Fills.{length-upward}
+use Rattle.lists.proofs.Tests.{same-is}
 use Rattle.schedule.proofs.Laws.{and-both}
 use Rattle.image_laws.specs.InRange.{byteLimit, Below}
 use Rattle.image_laws.proofs.Numbers.{word-first, word-second, word-third, word-fourth}
@@ -22,15 +23,6 @@ use Rattle.image_laws.proofs.Rows.{take-each, below-part, rows-written}
 use Rattle.image_laws.proofs.Parts.{service-written, order-written}
 use Rattle.image_laws.proofs.Written.{header, entries, records, spare, parts}
 use Rattle.image_laws.proofs.Zeros.{ZeroParts, zero-at, zeros-are}
-
-same-is : (l m : List ℕ) → same l m ≡ true → l ≡ m
-unfolding same
-same-is [] [] e = refl
-same-is [] (y ∷ m) e = absurd (true≢false (sym e))
-same-is (x ∷ l) [] e = absurd (true≢false (sym e))
-same-is (x ∷ l) (y ∷ m) e =
-    let t = and-both (eqb x y) (same l m) e in
-    ap₂ (λ (z : ℕ) (n : List ℕ). z ∷ n) (eqb-true x y (t .0)) (same-is l m (t .1))
 
 -- The mark and the version, byte by byte.
 record Marked (image : List ℕ) : Type 0 where

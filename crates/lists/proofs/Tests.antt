@@ -1,7 +1,7 @@
 -- Tests of a list's entries, as a loop makes them: with one entry more the test is the one so far and that of the entry. Over any test and any type. Of a
 -- row, the first n entries are in use: the loop over all of them tests that beside the entry. The same for the largest entry and for sums.
-use mathlib.Core.Path.{_≡_, refl, sym, ap, _∙_}
-use mathlib.Core.Bool.{Bool, true, false, not, cond, _&&_, _||_}
+use mathlib.Core.Path.{_≡_, refl, sym, ap, ap₂, _∙_}
+use mathlib.Core.Bool.{Bool, true, false, not, cond, _&&_, _||_, true≢false}
 use mathlib.Core.List.{List, [], _∷_, _++_, map}
 use Prim.Native.Nat.{ℕ, zero, suc, _+_, _-_, _≤_, _<_, max}
 use native.Mathlib.Nat.{add-zero}
@@ -9,9 +9,9 @@ use native.Mathlib.Numerals.{add-one}
 use native.Mathlib.Omega.{arith}
 use lib.ListN.{length, getD, take, drop, replicate, drop-of-length-le}
 use lib.Seq.{take-nil, drop-nil, take-suc, take-all, take-take, length-take-le, drop-append-le, ext-getD}
-use lib.Dec.{leb, ltb}
-use borrow.Author.Tests.{ltb-true, ltb-false, leb-true, leb-false, lt-ltb, le-ltb, lt-leb, le-leb}
-use Rattle.model.specs.Lists.{within, isZero, total, largest, concat, all, any, only, numbered, allStations, upward}
+use lib.Dec.{leb, ltb, eqb}
+use borrow.Author.Tests.{eqb-true, ltb-true, ltb-false, leb-true, leb-false, lt-ltb, le-ltb, lt-leb, le-leb}
+use Rattle.model.specs.Lists.{within, isZero, total, largest, concat, all, any, same, only, numbered, allStations, upward}
 use Rattle.lists.proofs.Fills.{length-upward, getD-upward, upward-more, concat-append, concat-one}
 
 pub and-true : (a : Bool) → (a && true) ≡ a
@@ -292,3 +292,13 @@ only-append test (x ∷ l) m =
     either (λ b. cond b (x ∷ only test (l ++ m)) (only test (l ++ m)) ≡ cond b (x ∷ only test l) (only test l) ++ only test m) (test x)
     (λ e. ap (λ t. x ∷ t) (only-append test l m))
     (λ e. only-append test l m)
+
+-- The test of two lists of numbers says that they are equal.
+pub same-is : (l m : List ℕ) → same l m ≡ true → l ≡ m
+unfolding same
+same-is [] [] e = refl
+same-is [] (y ∷ m) e = absurd (true≢false (sym e))
+same-is (x ∷ l) [] e = absurd (true≢false (sym e))
+same-is (x ∷ l) (y ∷ m) e =
+    let t = and-both (eqb x y) (same l m) e in
+    ap₂ (λ (z : ℕ) (n : List ℕ). z ∷ n) (eqb-true x y (t .0)) (same-is l m (t .1))

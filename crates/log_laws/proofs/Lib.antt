@@ -1,6 +1,10 @@
--- Laws of lines and logs; then the statements of `log_model`.
+-- Laws of lines and logs; then the statements of specs/.
+pub mod Ended
+pub mod Forms
+pub mod Lines
 pub mod RoundTrip
 pub mod Replies
+pub mod Verdicts
+pub mod Same
 pub mod Held
 pub mod Written
-pub mod Verdicts

@@ -45,7 +45,7 @@ agrees-where line r number ticket = rw (eq-eqb (r .number) (numberOf line) numbe
 given-agrees : (image : List ℕ) (line : Line) → Gives image line → agrees line (perform (callOf line) image lentReply) ≡ true
 given-agrees image line given = let t = given lentReply refl in agrees-where line (perform (callOf line) image lentReply) (t .0) (t .1)
 
-agreed-gives : (image : List ℕ) (line : Line) → agrees line (perform (callOf line) image lentReply) ≡ true → Gives image line
+pub agreed-gives : (image : List ℕ) (line : Line) → agrees line (perform (callOf line) image lentReply) ≡ true → Gives image line
 unfolding agrees
 agreed-gives image line e reply whole =
     let r = perform (callOf line) image lentReply in

@@ -1,3 +1,5 @@
--- Laws that printers share.
+-- Laws that printers and readers share.
 pub mod Decimals
 pub mod Rows
+pub mod Numbers
+pub mod Joined
