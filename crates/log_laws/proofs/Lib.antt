@@ -8,3 +8,8 @@ pub mod Verdicts
 pub mod Same
 pub mod Held
 pub mod Written
+pub mod Feeding
+pub mod Occupied
+pub mod Counting
+pub mod CallLines
+pub mod Whole
