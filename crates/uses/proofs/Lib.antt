@@ -10,4 +10,5 @@ pub mod Ticks
 pub mod Advances
 pub mod Served
 pub mod Plans
+pub mod Logs
 pub mod Table

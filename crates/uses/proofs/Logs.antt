@@ -22,7 +22,7 @@ use Rattle.image_laws.specs.InRange.{byteLimit, Below}
 use Rattle.text.specs.Ascii.{ascii}
 use Rattle.text.specs.Parts.{lines}
 use Rattle.log_model.specs.Limits.{most8, lastLine}
-use Rattle.log_model.specs.Lines.{Line, offered, advanced, callOf}
+use Rattle.log_model.specs.Lines.{Line, offered, advanced, callOf, numberOf, ticketOf}
 use Rattle.log_model.specs.Rerun.{lentReply, agrees}
 use Rattle.log_model.specs.Output.{stationsIn, callsIn, rerunOutput}
 use Rattle.log_model.specs.Reading.{Fed, fedAll, begun, printed}
@@ -55,3 +55,38 @@ refused-4 = claims .rerun-prints otherLog .refused 4 (refl {a = false}) before
     before (suc (suc zero)) h = refl {a = true}
     before (suc (suc (suc zero))) h = refl {a = true}
     before (suc (suc (suc (suc j)))) h = absurd (let w : ⊥ = omega arith in w)
+
+-- Each line that gives what it records does so with any reply of 16 bytes.
+gives : (image : List ℕ) (line : Line) → perform (callOf line) image lentReply .number ≡ numberOf line → word (perform (callOf line) image lentReply .reply) replyTicketAt ≡ ticketOf line → Gives image line
+gives image line number ticket reply whole = rw (reply-makes-no-difference line image reply lentReply whole refl) (number, ticket)
+
+-- Each of the first so many lines has its form.
+abbrev Formed : List ℕ → Type 0
+Formed log = (k : ℕ) → at true (forms log) k ≡ true
+
+differing-formed : Formed differingLog
+unfolding isRerun
+differing-formed zero = refl {a = true}
+differing-formed (suc zero) = refl {a = true}
+differing-formed (suc (suc zero)) = refl {a = true}
+differing-formed (suc (suc (suc zero))) = refl {a = true}
+differing-formed (suc (suc (suc (suc zero)))) = refl {a = true}
+differing-formed (suc (suc (suc (suc (suc k))))) = refl {a = true}
+
+differs-3 : rerunOutput differingLog ≡ ascii "differs 3\n"
+unfolding isRerun
+differs-3 =
+    claims .rerun-prints differingLog .differs differing-formed (advanced 0 ∷ []) (advanced 0 ∷ []) (advanced 5) refl
+    (gives (encode (fresh 8)) (advanced 0) refl refl, tt)
+    (λ given. let w : _≡_ {A = ℕ} 0 5 = given lentReply refl .1 in omega arith)
+
+agreeing-formed : Formed agreeingLog
+unfolding isRerun
+agreeing-formed zero = refl {a = true}
+agreeing-formed (suc zero) = refl {a = true}
+agreeing-formed (suc (suc zero)) = refl {a = true}
+agreeing-formed (suc (suc (suc k))) = refl {a = true}
+
+same-8 : rerunOutput agreeingLog ≡ ascii "same\n1 0 0\n2 0 0\n3 0 0\n4 0 0\n5 0 0\n6 0 0\n7 0 0\n8 0 0\n"
+unfolding isRerun
+same-8 = claims .rerun-prints agreeingLog .same agreeing-formed (gives (encode (fresh 8)) (advanced 0) refl refl, tt)
