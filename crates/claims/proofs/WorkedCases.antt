@@ -10,11 +10,11 @@ use Rattle.model.specs.DefaultCases.{defaultCases}
 use Rattle.model.proofs.Cases.{paper-cases-hold}
 use Rattle.model.proofs.FormatCases.{format-cases-hold}
 use Rattle.model.proofs.DefaultCases.{default-cases-hold}
-use Rattle.log_model.specs.Cases.{Rerunning, isRerun, logTables}
-use Rattle.log_model.proofs.Cases.{logs-hold}
+use Rattle.log_model.specs.Cases.{Rerunning, isRerun, logTables, Share, isShare, shares}
+use Rattle.log_model.proofs.Cases.{logs-hold, shares-hold}
 use Rattle.plan_model.specs.Cases.{Printing, isPrinted, paperTables, insideTables}
 use Rattle.plan_model.proofs.Cases.{paper-tables-hold, inside-tables-hold}
-use Rattle.claims.specs.WorkedCases.{Case, ofCalls, ofPlan, ofLog, CaseHolds, EachHolds, paperTable, WorkedCases}
+use Rattle.claims.specs.WorkedCases.{Case, ofCalls, ofPlan, ofLog, ofShare, CaseHolds, EachHolds, paperTable, WorkedCases}
 
 is-true : (k : ℕ) (b : Bool) → Held k b → b ≡ true
 is-true k b (held j) = refl
@@ -33,7 +33,7 @@ append-holds : (a b : List Case) → EachHolds a → EachHolds b → EachHolds (
 append-holds [] b p q = q
 append-holds (case ∷ a) b p q = (p .0, append-holds a b (p .1) q)
 
--- A table that holds: of calls, of plan, of logs, and one after another.
+-- A table that holds: of calls, of plan, of logs, of their last column, and one after another.
 abbrev Holding : Type 0
 Holding = (table : List Case) × EachHolds table
 
@@ -45,6 +45,9 @@ plans tables h = (map ofPlan tables, each-passes isPrinted ofPlan (λ t e. e) 1 
 
 abbrev logs : (tables : List Rerunning) → EachFrom isRerun 1 tables → Holding
 logs tables h = (map ofLog tables, each-passes isRerun ofLog (λ t e. e) 1 tables h)
+
+abbrev columns : (rows : List Share) → EachFrom isShare 1 rows → Holding
+columns rows h = (map ofShare rows, each-passes isShare ofShare (λ t e. e) 1 rows h)
 
 infixl 20 _and_
 abbrev _and_ : Holding → Holding → Holding
@@ -58,4 +61,5 @@ worked-cases-hold =
     and calls formatCases format-cases-hold
     and plans insideTables inside-tables-hold
     and calls defaultCases default-cases-hold
-    and logs logTables logs-hold) .1
+    and logs logTables logs-hold
+    and columns shares shares-hold) .1

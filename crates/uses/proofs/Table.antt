@@ -2,7 +2,7 @@
 -- left out or another figure is refused.
 use mathlib.Core.Path.{_≡_, refl}
 use mathlib.Core.Bool.{true}
-use mathlib.Core.List.{List, [], _∷_}
+use mathlib.Core.List.{List, [], _∷_, _++_}
 use Prim.Native.Nat.{ℕ}
 use lib.ListN.{length, take, getD, replicate}
 use lib.IntN.{pos, negsuc}
@@ -13,6 +13,7 @@ use Rattle.model.specs.Cases.{order, X, Y, accepts, late, advances, firstTwo, l
 use Rattle.model.specs.FormatCases.{sheetOf, byFormat, takes, tooLate, refuses, tells, twoStations, firstTwoByFormat, lateByFormat, told, tenFormats, formatNumbers, formatCases}
 use Rattle.model.specs.DefaultCases.{sidesOfDefault, sidesWithLive, sidesByFormat, defaultCases}
 use Rattle.text.specs.Ascii.{ascii}
+use Rattle.log_model.specs.Cases.{_reruns_, isRerun, idleTicks, isShare}
 use Rattle.plan_model.specs.Cases.{_prints_, isPrinted}
 use Rattle.claims.specs.WorkedCases.{paperTable}
 use Rattle.claims.proofs.Claims.{claims}
@@ -42,6 +43,17 @@ inside = let c = claims .worked-cases .1 .1 .1 .1 .1 .1 .1 .1 .1 .1 .1 .1 .1 in 
 byDefault : Hold sidesOfDefault × Hold sidesWithLive × Hold sidesByFormat
 unfolding paperTable paperCases formatCases defaultCases
 byDefault = let c = claims .worked-cases .1 .1 .1 .1 .1 .1 .1 .1 .1 .1 .1 .1 .1 .1 .1 .1 .1 in (c .0, c .1 .0, c .1 .1 .0)
+
+-- ---- those of logs: one at least of each kind, the first and the last among them; and of the last column
+ofLogs : (isRerun (ascii "" reruns ascii "refused 21 1\n") ≡ true) × (isRerun (ascii "N 1\nO 0 5 2 0 1\nT 0\nT 1\nT 0\n" reruns ascii "same\n1 2 667\n") ≡ true) × (isRerun (ascii "N 1\nO 0 0 1 0 1\nT 1\n" ++ idleTicks 15 reruns ascii "same\n1 1 63\n") ≡ true) × (isRerun (ascii "N 1\nO 0 5 6001 6 1\n" reruns ascii "differs 2\n") ≡ true) × (isRerun (ascii "N 1\nT 7\nT 0\nX\n" reruns ascii "refused 21 4\n") ≡ true) × (isRerun (ascii "N 9\n" reruns ascii "refused 21 1\n") ≡ true) × (isRerun (ascii "N 1\nO 4294967296 255 1 7 0\n" reruns ascii "refused 21 2\n") ≡ true) × (isRerun (ascii "N 1\nT 4294967296\n" reruns ascii "refused 21 2\n") ≡ true)
+unfolding paperTable paperCases formatCases defaultCases
+ofLogs =
+    let c = claims .worked-cases .1 .1 .1 .1 .1 .1 .1 .1 .1 .1 .1 .1 .1 .1 .1 .1 .1 .1 .1 .1 in
+    (c .0, c .1 .1 .1 .0, c .1 .1 .1 .1 .1 .0, c .1 .1 .1 .1 .1 .1 .1 .1 .0, c .1 .1 .1 .1 .1 .1 .1 .1 .1 .1 .1 .1 .0, c .1 .1 .1 .1 .1 .1 .1 .1 .1 .1 .1 .1 .1 .1 .1 .1 .0, c .1 .1 .1 .1 .1 .1 .1 .1 .1 .1 .1 .1 .1 .1 .1 .1 .1 .1 .1 .1 .1 .1 .1 .1 .1 .0, c .1 .1 .1 .1 .1 .1 .1 .1 .1 .1 .1 .1 .1 .1 .1 .1 .1 .1 .1 .1 .1 .1 .1 .1 .1 .1 .1 .1 .1 .1 .1 .0)
+
+inThousandths : (isShare (record { busy = 1; all = 2000; printed = 1 }) ≡ true) × (isShare (record { busy = 3; all = 2000; printed = 2 }) ≡ true) × (isShare (record { busy = 4000000000; all = 4000000000; printed = 1000 }) ≡ true)
+unfolding paperTable paperCases formatCases defaultCases
+inThousandths = let c = claims .worked-cases .1 .1 .1 .1 .1 .1 .1 .1 .1 .1 .1 .1 .1 .1 .1 .1 .1 .1 .1 .1 .1 .1 .1 .1 .1 .1 .1 .1 .1 .1 .1 .1 .1 .1 .1 .1 .1 .1 .1 .1 .1 .1 .1 .1 .1 .1 .1 .1 .1 .1 .1 .1 in (c .1 .1 .0, c .1 .1 .1 .0, c .1 .1 .1 .1 .1 .1 .1 .0)
 
 -- ---- their rows: an offer with its number, ticket, tick and margin; an advance with the ticket out and the clock
 abbrev rowAt : List Row → ℕ → Row

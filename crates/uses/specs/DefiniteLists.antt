@@ -1,7 +1,7 @@
 -- Definite lists of calls as demand 3 has them, and the runs after them. X and Y are document 01's orders.
 use mathlib.Core.List.{List, [], _∷_}
 use Prim.Native.Nat.{ℕ, _-_}
-use lib.ListN.{replicate}
+use lib.ListN.{take, replicate}
 use Rattle.model.specs.State.{fresh}
 use Rattle.model.specs.Layout.{imageSize, replySize}
 use Rattle.model.specs.Image.{encode}
@@ -49,6 +49,14 @@ halfwayCalls = whole (offering (X 20 0)) ∷ whole (offering (Y 7 5)) ∷ ticks 
 unfoldable pub eightCalls : List Lent
 unfolding order
 eightCalls = whole (offering (order 9 0 (replicate 8 1))) ∷ whole (offering (order 9 1 (replicate 8 1))) ∷ ticks 8
+
+-- N = 2, for a log: X is accepted; Y with due-in 6 gets 11, and a cost of 0 gets 6. A reply of a byte less, a block of a byte less, a cost beyond N and an
+-- advance with a reply of a byte less have no line. Then one advance.
+unfoldable pub loggedCalls : List Lent
+unfolding order
+loggedCalls =
+    whole (offering (X 20 0)) ∷ whole (offering (Y 6 5)) ∷ whole (offering (order 20 0 (0 ∷ 1 ∷ []))) ∷ withReply (replySize - 1) (offering (Y 7 5))
+    ∷ whole (offering (take 27 (X 20 0))) ∷ whole (offering (order 20 0 (1 ∷ 1 ∷ 1 ∷ []))) ∷ withReply (replySize - 1) advancing ∷ ticks 1
 
 -- N = 2, by format: A3 is X and A5 is Y (`twoStations`). A3 with due-in 20, one of no format, a late quote of A5, A5 with due-in 7, and seven advances.
 unfoldable pub formatCalls : List Lent
