@@ -23,18 +23,18 @@ TOOLCHAIN = ("io", "libc")
 
 # Where each box stands: a name fills the places that it is written in.
 GRID = """
-model       model      model       model       model       model
-text        lists      lists       lists       lists       lists
-plan_model  schedule   schedule    legend      legend      legend
-plan_model  delay      image_laws  image       image       image
-plan_core   delay      call_laws   tick        soundness   soundness
-plan_text   claims     claims      tick        admission   image_text
-plan        claims     claims      dispatcher  dispatcher  inspect
-planners    auditor    auditor     firmware    firmware    workshop
-trials      uses       cases       soak        soak        probe
+model       model       model      model       model       model       model
+text        text        lists      lists       lists       lists       lists
+plan_model  log_model   schedule   schedule    legend      legend      legend
+plan_model  log_model   delay      image_laws  image       image       image
+plan_core   log_model   delay      call_laws   tick        soundness   soundness
+plan_text   log_model   runs       runs        tick        admission   image_text
+plan        log_laws    claims     claims      dispatcher  dispatcher  inspect
+planners    uses        auditor    auditor     log_reader  firmware    workshop
+trials      cases       soak       probe       rerun       van         workshop
 """
-COLUMNS = [144, 110, 126, 112, 140, 136]  # widths
-GAPS = [30, 12, 34, 12, 12]  # between the columns
+COLUMNS = [128, 128, 110, 126, 118, 140, 136]  # widths
+GAPS = [12, 34, 12, 34, 12, 12]  # between the columns
 MARGIN, ROW_GAP = 16, 26
 
 # A crate: its kind, and what it is.
@@ -43,11 +43,14 @@ CRATES = {
     "lists": ("theorem", "laws of lists and signed numbers"),
     "text": ("code", "words and decimals as bytes"),
     "plan_model": ("definition", "plan as definitions, from the base of a task to the bytes printed, and what they mean"),
+    "log_model": ("definition", "a log as definitions: the form of its lines, the calls that they record, what is printed for it, and its reading byte by byte"),
     "schedule": ("theorem", "what a tick means: who starts, and that each is served in full"),
     "delay": ("theorem", "due times hold, for every history"),
     "image_laws": ("theorem", "reading and writing undo each other"),
     "call_laws": ("theorem", "what a call gives and leaves"),
-    "claims": ("theorem", "what a stranger may rely on, in one record: due times over every list of calls, the next answer, each tick, progress, plan's figures"),
+    "runs": ("theorem", "lists of calls: the image says what the history says"),
+    "log_laws": ("theorem", "what a rerun means, of logs that are written and logs that are read"),
+    "claims": ("theorem", "what a stranger may rely on, in one record: due times over every list of calls, the next answer, each tick, progress, plan's figures, logs"),
     "uses": ("theorem", "each claim used in a definite case, in figures"),
     "image": ("code", "the image's bytes as a state, and back"),
     "soundness": ("code", "every clause of a sound image; questions 1 to 4"),
@@ -56,6 +59,8 @@ CRATES = {
     "dispatcher": ("code", "the C interface: open, quote, offer, advance"),
     "image_text": ("code", "an image explained"),
     "inspect": ("code", "the program: an image in, text out"),
+    "log_reader": ("code", "a log of any length, fed in chunks"),
+    "rerun": ("code", "the program: a log in, its verdict out"),
     "plan_core": ("code", "the figures of every task of a lent list"),
     "plan_text": ("code", "from input bytes to output bytes"),
     "plan": ("code", "the program: a table in, its figures out"),
@@ -64,27 +69,33 @@ CRATES = {
     "soak": ("test", "program: 100,000 calls, drawn by a generator"),
     "probe": ("test", "entries for tests and benchmark"),
 }
-OPEN = ("dispatcher", "plan_core", "plan", "inspect")  # what is handed out: the C library, plan over a lent list, the programs
+OPEN = ("dispatcher", "plan_core", "plan", "inspect", "rerun")  # what is handed out: the C library, plan over a lent list, the programs
 BEGIN = {"model": "for the definitions", "claims": "for what is promised", "dispatcher": "for the code"}
 
 # What stands outside: its name, what it does, and the crate that it comes to.
 OUTSIDE = {
     "planners": ("Planners", "run plan on a standing table", "plan"),
     "auditor": ("Auditor", "reads claims, docs/READING.md and the contracts", "claims"),
-    "firmware": ("Firmware of a cabinet", "calls what include/dispatcher.h declares", "dispatcher"),
+    "firmware": ("Firmware", "calls what include/dispatcher.h declares", "dispatcher"),
     "workshop": ("Workshop", "runs inspect on an image", "inspect"),
+    "van": ("Service van", "brings logs to rerun", "rerun"),
 }
 
 # The uses that do not follow from others: by arrows, or by a note in the box.
 ARROWS = {
     "plan_model": "text",
+    "log_model": "text",
+    "runs": "delay call_laws",
+    "log_laws": "runs log_model",
+    "log_reader": "dispatcher",
+    "rerun": "log_reader",
     "plan_core": "plan_model",
     "plan_text": "plan_core",
     "plan": "plan_text",
     "delay": "schedule",
     "image_laws": "schedule",
     "call_laws": "image_laws",
-    "claims": "plan_model delay call_laws",
+    "claims": "log_laws",
     "image": "image_laws",
     "soundness": "image",
     "admission": "soundness",
@@ -94,6 +105,8 @@ ARROWS = {
     "inspect": "image_text",
 }
 NOTES = {
+    "claims": "plan_model",
+    "log_reader": "log_model",
     "admission": "call_laws",
     "image_text": "text",
     "trials": "image_text",

@@ -27,7 +27,7 @@ PROVED_IN = "claims"
 STATEMENT = ("Claims", "Claims")
 DEMAND = "due-times"  # the field that the opening tells at length; it has every other in its table
 PROOF = ("claims", "crates/claims/proofs/Claims.antt")
-CRATES_OF_DEFINITIONS = ["model", "text", "schedule", "plan_model", "image_laws", "call_laws", "claims"]
+CRATES_OF_DEFINITIONS = ["model", "text", "schedule", "plan_model", "image_laws", "call_laws", "log_model", "log_laws", "claims"]
 WIDTH = 120
 
 # The sections of document 01, by a letter, and those whose sentences are all accounted for. A request of document 02 goes by its number. A passage is
@@ -220,6 +220,7 @@ FILES = [
         ("The beginning", ["R: A list starts"], ["started"]),
         ("Call after call", ["R: Each call gets", "R: The book is fed"], ["outcome", "afterCall", "afterAll"]),
         ("Which lists", ["R: Demand 3 speaks of", "i~ in demand 3's lists and in the run book it counts as that block"], ["Allowed", "AllAllowed"]),
+        ("The stations during each tick of a list", ["T: Each idle station", "R: Each call gets"], ["duringCall", "duringCalls"]),
     ]),
     ("claims/specs/Demand3.antt", "Demand 3", [
         ("Each accepted order", ["R: After every such list"], ["InTime"]),
@@ -315,7 +316,6 @@ FILES = [
         ("Start after acceptance", ["T: An order accepted at tick 5"], ["StartsOnceAccepted"]),
         ("Start after the station before", ["T: One that leaves station 1"], ["StartsOnceMoved"]),
         ("When an order may start first", ["T: An order accepted at tick 5", "T: One that leaves station 1"], ["TimelyAt", "Timely"]),
-        ("The stations during each tick of a list", ["T: Each idle station", "R: Each call gets"], ["duringCall", "duringCalls"]),
         ("Which lists", ["R: Demand 3 speaks of"], ["NotReopened"]),
         ("Served in full", [FURTHER, "C~ visited 1, 2, .. N by every order", "W~ an advance that moves the clock and no sheet (demand 2's starts)"],
          ["ServedInFull"]),
@@ -404,16 +404,19 @@ FILES = [
     ("text/specs/Decimal.antt", "Numbers in decimal", [
         ("Digits", ["C~ Numbers are decimal"], ["digit", "digits", "decimal"]),
     ]),
-    ("plan_model/specs/Parts.antt", "Lines and words of a text", [
+    ("text/specs/Number.antt", "Decimals that are read", [
+        ("Their form", ["S~ without leading zeros (a lone 0 has the form)", "iv~ all single-spaced decimals without leading zeros"], ["isDigit", "noLeadingZero", "isDecimal"]),
+        ("Their value", ["C~ Numbers are decimal"], ["appended", "valueOf"]),
+    ]),
+    ("text/specs/Parts.antt", "Lines and words of a text", [
         ("Line feed and space", ["S~ single spaces, each line ended by a line feed"], ["lineFeed", "space"]),
         ("The parts between", ["S~ single spaces, each line ended by a line feed"], ["placed", "parts", "lastOf"]),
+        ("Lines and words", ["S~ single spaces, each line ended by a line feed", "iv~ each line ended by a line feed"], ["linesOf", "lines", "words"]),
     ]),
     ("plan_model/specs/Number.antt", "A number of the input", [
-        ("Its form", ["S~ unsigned decimals of 1 to 9 digits without leading zeros (a lone 0 has the form)"], ["isDigit", "isNumber"]),
-        ("Its value", ["C~ Numbers are decimal"], ["appended", "valueOf"]),
+        ("Its form", ["S~ unsigned decimals of 1 to 9 digits without leading zeros (a lone 0 has the form)"], ["isNumber"]),
     ]),
     ("plan_model/specs/Input.antt", "The plan program's input", [
-        ("Lines and words", ["S~ single spaces, each line ended by a line feed"], ["linesOf", "lines", "words"]),
         ("The first line", ["S~ first line N", "S~ 16 first line a number 1 to 8"], ["isStations", "stationsOf"]),
         ("The task lines", ["S~ 17 one to 32 task lines of that form", "S: The plan program reads"], ["isNumbers", "isTaskLine", "isTaskLines"]),
         ("The tasks", ["S~ then one line a task, `period deadline cost1 .. costN`"], ["taskOf", "taskAt", "tasksOf"]),
@@ -477,6 +480,86 @@ FILES = [
         ("The same by format", ["iii: Quote, offer and", "iii~ the workshop needs a case on each side of 9,000"], ["sidesByFormat"]),
         ("All of them", ["iii~ the workshop needs a case on each side of 9,000"], ["defaultCases"]),
     ]),
+    ("log_model/specs/Limits.antt", "The figures of a log", [
+        ("The fields", ["iv~ a value too large for its field"], ["most8", "most16", "most32"]),
+        ("The longest line", [FURTHER, "iv~ all single-spaced decimals without leading zeros"], ["maxLine"]),
+        ("The last line that is counted", [FURTHER, "iv~ Lines count from 1"], ["lastLine"]),
+    ]),
+    ("log_model/specs/Lines.antt", "The lines of a log", [
+        ("A value and its field", ["iv~ all single-spaced decimals without leading zeros", "iv~ a value too large for its field"], ["fits", "fitAll"]),
+        ("A letter and fields", ["iv: A program reads one"], ["hasForm", "valuesOf"]),
+        ("The `N` line", ["iv~ first `N` and the station count", "iv~ a station count outside 1 to 8"], ["stationsOf", "isStations"]),
+        ("An `O` line", ["iv~ then a line `O` with due-in, N ranks, N costs, and the recorded number and ticket"], ["orderFields", "isOffer"]),
+        ("A `T` line", ["iv~ or a line `T` with the recorded ticket out"], ["isAdvance"]),
+        ("What a line records", ["iv~ due-in, N ranks, N costs, and the recorded number and ticket", "iv~ the recorded ticket out"], ["Line", "offeredBy", "lineOf"]),
+        ("The call that it records", ["i~ block fields beyond N are zero", "I: An order block is"], ["toEight", "callOf"]),
+        ("Its number and its ticket", ["iv~ the recorded number and ticket", "iv~ a `T` whose advance is declined disagrees"], ["numberOf", "ticketOf"]),
+    ]),
+    ("log_model/specs/Rounding.antt", "The last column", [
+        ("To the nearest", ["iv~ rounded to nearest, a half upward"], ["nearest"]),
+        ("Thousandths", ["iv~ busy ticks × 1,000 / all ticks, rounded to nearest, a half upward; 0 when no tick passed"], ["thousandths"]),
+        ("What that means", ["iv~ rounded to nearest, a half upward; 0 when no tick passed"], ["Rounded", "ThousandthsMean"]),
+    ]),
+    ("log_model/specs/Rerun.antt", "The rerun", [
+        ("The reply that is lent", ["Q: Is the lent reply"], ["lentReply", "lentOf"]),
+        ("Whether a line agrees", ["iv~ or `differs` and the number of the first line that disagrees; a `T` whose advance is declined disagrees"], ["agrees"]),
+        ("A declined advance", ["iv~ a `T` whose advance is declined disagrees"], ["DeclinedDisagrees"]),
+        ("The first line that disagrees", ["iv~ It runs the log from a fresh cabinet", "iv~ the number of the first line that disagrees"], ["firstDifference", "differsAt"]),
+        ("The ticks", ["iv~ all ticks"], ["ticksOf"]),
+        ("Busy ticks", ["iv~ busy ticks"], ["isBusy", "busyTicks"]),
+    ]),
+    ("log_model/specs/Output.antt", "What the rerun prints", [
+        ("The form of each line", ["iv: Lines count from 1", "iv~ 21 for a line of another form"], ["isCall", "formed", "unended"]),
+        ("The first line of another form", ["iv~ the first such line anywhere in the log", "iv~ Lines count from 1"], ["firstFalse", "refusedAt"]),
+        ("What a log says", ["iv: A program reads one"], ["stationsIn", "callsIn"]),
+        ("Its lines", ["iv~ is printed as `refused 21` and its line number in place of any result", "iv: Printed lines, here and"], ["refusedLine", "differsLine"]),
+        ("After `same`", ["iv: After `same`"], ["stationLine", "sameLines", "busyOf"]),
+        ("What is printed", ["iv: It runs the log", "iv: Refused: 21"], ["resultOf", "rerunOutput"]),
+    ]),
+    ("log_model/src/lib.rt", "The state of a log that is read", [
+        ("What the ended lines make of it", FURTHER, ["Rerun"]),
+        ("With the line that has not ended", FURTHER, ["Reading"]),
+    ]),
+    ("log_model/specs/Reading.antt", "A log byte by byte", [
+        ("The state and the image", FURTHER, ["Ran", "nextLine", "settled"]),
+        ("A line of another form, and one passed over", [FURTHER, "iv~ the first such line anywhere in the log"], ["refusedHere", "passedBy"]),
+        ("The first line", [FURTHER, "iv~ first `N` and the station count"], ["openedWith", "firstLine"]),
+        ("Ticks and busy ticks", [FURTHER, "iv~ station, busy ticks"], ["oneMore", "occupied", "counted", "tickPassed", "afterLine"]),
+        ("A later line", [FURTHER, "iv~ or `differs` and the number of the first line that disagrees"], ["comparedBy", "ranLine", "callLine", "lineEnded"]),
+        ("A byte, and bytes", [FURTHER, "iv~ each line ended by a line feed"], ["Fed", "heldLine", "holding", "fedLineFeed", "fedByte", "fedAll", "begun"]),
+        ("At the end", [FURTHER, "iv: Refused: 21"], ["atEnd", "printed"]),
+    ]),
+    ("log_model/specs/Written.antt", "A log that is written", [
+        ("A line", ["iv~ all single-spaced decimals without leading zeros, each line ended by a line feed"], ["fieldBytes", "lineBytes"]),
+        ("Each kind of line", ["iv: A program reads one"], ["stationsBytes", "callBytes"]),
+        ("The log", ["iv~ each line ended by a line feed"], ["ended", "writtenLog"]),
+        ("What a line can hold", ["iv~ a value too large for its field"], ["canHold"]),
+        ("The lines of a call", ["iv~ the recorded number and ticket", "i~ in demand 3's lists and in the run book it counts as that block"],
+         ["offerLine", "offerLines", "advanceLines", "linesFor"]),
+        ("The lines of a list of calls", ["R: Each call gets"], ["linesOfCalls"]),
+        ("The book's ticks", ["R: Advance returning 0", "iv~ busy ticks"], ["duringIn", "bookTicks"]),
+    ]),
+    ("log_laws/specs/Meaning.antt", "What a rerun means", [
+        ("Lists of bytes", ["R: Offers and quotes get"], ["OfBytes", "AllOfBytes"]),
+        ("A log that is written reruns as same", [FURTHER, "iv: It runs the log"], ["RerunsAsSame", "WrittenReruns"]),
+        ("What a line gives", ["iv~ the recorded number and ticket"], ["Gives", "AllGive"]),
+        ("What same means", [FURTHER, "iv: It runs the log"], ["Recorded", "SameMeans"]),
+        ("Which of the three", ["iv: It runs the log", "iv: Refused: 21", "iv: After `same`"], ["forms", "imageAfter", "Verdicts", "PrintsAsAsked"]),
+        ("In any chunks", [FURTHER, "iv~ reads one from standard input"], ["WhateverChunks"]),
+        ("As the whole log", [FURTHER, "iv~ reads one from standard input"], ["readLog", "ReadsAsWhole"]),
+    ]),
+    ("log_model/specs/Cases.antt", "Worked logs", [
+        ("A log and what is printed", ["iv: It runs the log"], ["Rerunning", "isRerun"]),
+        ("Ticks without an order", OWN, ["idleTicks"]),
+        ("Short logs", ["iv: Lines count from 1"], ["shortLogs"]),
+        ("Orders that are served", ["iv: After `same`"], ["servedLogs"]),
+        ("Halves", ["iv~ rounded to nearest, a half upward"], ["halfLogs"]),
+        ("What disagrees", ["iv: It runs the log"], ["differingLogs"]),
+        ("Lines of another form", ["iv: Refused: 21"], ["otherLogs"]),
+        ("Values and their fields", ["iv~ a value too large for its field"], ["fieldLogs"]),
+        ("All of them", ["iv: It runs the log"], ["logTables"]),
+        ("The last column", ["iv~ rounded to nearest, a half upward"], ["Share", "isShare", "share", "shares"]),
+    ]),
     ("claims/specs/WorkedCases.antt", "The table of worked cases", [
         ("A case, and that it holds", ["W~ The cases marked P form one proved table"], ["Case", "CaseHolds", "EachHolds"]),
         ("The table", ["E: Marked P are proved", "E: P: both plan tables", "W~ The cases marked P form one proved table"], ["paperTable", "WorkedCases"]),
@@ -495,6 +578,7 @@ WHOLE = {
     "plan_model/specs/Plan.antt": ["S: Plan reads a table", "S: The standing table is", "S: Plan fills base", "S: It declines N by 14", "S: Costs beyond N"],
     "plan_model/specs/Response.antt": ["S: Response: begin with", "S: The repetition ends", "S: On time means", "ii: The factor for task i"],
     "plan_model/specs/Input.antt": ["S: The plan program reads", "S: Its questions"],
+    "log_model/specs/Output.antt": ["iv: A program reads one", "iv: Lines count from 1", "iv: It runs the log", "iv: After `same`", "iv: Refused: 21"],
     "model/specs/History.antt": ["R: The book is fed", "R: It holds N", "R: It starts with"],
 }
 
@@ -526,6 +610,9 @@ ELSEWHERE = [
     ("ii: A landing that", "why it was asked for"),
     ("ii~ Planning figures, demand 2's too, are compared with this rule from now on", "tests/README.md says what is compared with what, and at which level"),
     ("iii: Walkers who", "why it was asked for"),
+    ("iv: The service van", "why it was asked for"),
+    ("iv~ reads one from standard input", "the program crates/rerun, which reads and writes and does nothing else"),
+    ("iv~ here and in later requests, are spaced and ended likewise", "of the rerun; later requests have their own"),
     ("X: The core carries", "a form of the code: crates/image/src/pipeline.rt"),
     ("X: After it, a station's", "a form of the code: crates/tick/src/entries.rt"),
 ]
@@ -586,6 +673,7 @@ LIBRARY = {
         "take": "`take n l` is the first n entries, or all where there are fewer",
         "drop": "`drop n l` is what follows the first n entries",
         "replicate": "`replicate n x` is n times x",
+        "set": "`set l i x` is l with x at place i, counted from 0, and l where there is no such place",
     },
     "lib.Dec": {
         "leb": "the test at most",
@@ -620,6 +708,9 @@ CODE = [
     ("crates/dispatcher/src/advance.rt", "dispatcher_advance", ["advanceCall"]),
     ("crates/plan_core/src/lent.rt", "plan", ["planNumber", "afterPlan"]),
     ("crates/plan_text/src/print.rt", "print_plan", ["planOutput"]),
+    ("crates/log_reader/src/feed.rt", "begin", ["begun"]),
+    ("crates/log_reader/src/feed.rt", "feed", ["fedAll"]),
+    ("crates/log_reader/src/print.rt", "print", ["printed"]),
 ]
 GIVES = [("crates/dispatcher/specs/Gives.antt", ["Gives"]), ("crates/lists/specs/Stored.antt", ["Stored", "Put"])]
 
@@ -787,7 +878,7 @@ def resolve(definition):
         for kind in re.findall(r": (.*),$", "\n".join(definition.code), re.M):
             if kind in module.declared:
                 used.add(module.declared[kind])
-            elif not re.fullmatch(r"u8|u16|u32|u64|\[(u8|u16|u32); 8\]", kind):
+            elif not re.fullmatch(r"u8|u16|u32|u64|usize|\[(u8|u16|u32); \d+\]", kind):
                 fail(f"{module.path}: a field of {definition.name} has the type {kind}")
         return used, library, projected
     text, tokens = tokens_of(definition.code)

@@ -10,13 +10,13 @@ use dispatcher::format::dispatcher_quote_format;
 use dispatcher::offer::dispatcher_offer;
 use dispatcher::offer::dispatcher_quote;
 use dispatcher::open::dispatcher_open;
+use image::block::order_block;
 use image::layout::BLOCK_SIZE;
 use image::layout::IMAGE_SIZE;
 use image::layout::REPLY_SIZE;
 use image::layout::SHEET_SIZE;
 use image_text::explanation::explain;
 use plan_text::print::print_plan;
-use image::block::order_block;
 use trials::case_lines::put_reply_line;
 
 // The line of a call.

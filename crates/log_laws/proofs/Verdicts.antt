@@ -87,7 +87,7 @@ prints-as-asked log =
       refused = refused-by log;
       differs = λ all before later line is given other.
           let first : firstDifference 2 (encode (fresh (stationsIn log))) (callsIn log) ≡ length before + 2 =
-              ap (λ (l : List Line). firstDifference 2 (encode (fresh (stationsIn log))) l) is ∙ first-other before later line 2 (encode (fresh (stationsIn log))) given other in
+          ap (λ (l : List Line). firstDifference 2 (encode (fresh (stationsIn log))) l) is ∙ first-other before later line 2 (encode (fresh (stationsIn log))) given other in
           rw (of-the-form log all, first, ne-eqb (length before + 2) 0 (λ z. omega arith));
       same = λ all given. rw (of-the-form log all, none-other (callsIn log) 2 (encode (fresh (stationsIn log))) given);
     }

@@ -95,7 +95,7 @@ unfolding linesOfCalls bookTicks firstDifference afterAll
 follows n few [] run is kept allowed bytes = record { fit = tt; agree = λ k. refl; during = refl; clock = omega arith }
 follows n few (lent ∷ later) run is kept allowed bytes =
     let next : Follows n (afterCall run lent) later =
-        follows n few later (afterCall run lent) (unfold afterCall in fed-n (lent .call) (outcome run lent .number) (run .history) ∙ is) (invariant-call run kept lent (allowed .0)) (allowed .1) (bytes .1) in
+    follows n few later (afterCall run lent) (unfold afterCall in fed-n (lent .call) (outcome run lent .number) (run .history) ∙ is) (invariant-call run kept lent (allowed .0)) (allowed .1) (bytes .1) in
     follows-more n run is lent later next (each-logged run kept (rw is few) lent (allowed .0) (bytes .0))
 
 -- ---- from a fresh cabinet

@@ -3,18 +3,20 @@
 // proved in proofs/ and in the crate `log_laws`.
 pub mod limits; // the figures
 
-// What the lines that have ended make of a log.
+// What the lines that have ended make of a log: the number of the line that is read, from 1, or 0 when lines are no longer
+// counted; N, once the first line has ended; the numbers of the first line of another form and of the first that disagrees, or
+// 0; the ticks that passed, and those in which each station was busy.
 pub struct Rerun {
-    pub line: u64,      // the number of the line that is read, from 1; 0 when lines are no longer counted
-    pub stations: u32,  // N, once the first line has ended
-    pub refused: u64,   // the number of the first line of another form, or 0
-    pub differs: u64,   // the number of the first line that disagrees, or 0
-    pub ticks: u32,     // the ticks that passed
-    pub busy: [u32; 8], // and those in which each station was busy
+    pub line: u64,
+    pub stations: u32,
+    pub refused: u64,
+    pub differs: u64,
+    pub ticks: u32,
+    pub busy: [u32; 8],
 }
 
-// The state of a log that is read: the line that has not ended yet stands in the first `held` bytes of `pending`, or, of one that is
-// longer than any line of the form, so many bytes of it.
+// The state of a log that is read: the line that has not ended yet stands in the first `held` bytes of `pending`; of one that
+// is longer than any line of the form, the first 220 bytes.
 pub struct Reading {
     pub rerun: Rerun,
     pub pending: [u8; 220],

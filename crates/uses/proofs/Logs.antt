@@ -113,12 +113,19 @@ mixed-figures = (mixed-reruns .ticks, mixed-reruns .prints)
 -- Declined offers have lines too; what a line cannot hold has none.
 logged-bytes : AllOfBytes loggedCalls
 unfolding readRow loggedCalls X Y order
-logged-bytes =
-    (block-bytes (X 20 0) (refl {a = true}),
-    (block-bytes (Y 6 5) (refl {a = true}),
-    (block-bytes (order 20 0 (0 ∷ 1 ∷ [])) (refl {a = true}),
-    (block-bytes (Y 7 5) (refl {a = true}),
-    (block-bytes (take 27 (X 20 0)) (refl {a = true}), (block-bytes (order 20 0 (1 ∷ 1 ∷ 1 ∷ [])) (refl {a = true}), (tt, (tt, tt))))))))
+logged-bytes = (
+  block-bytes (X 20 0) (refl {a = true}),
+  (
+    block-bytes (Y 6 5) (refl {a = true}),
+    (
+      block-bytes (order 20 0 (0 ∷ 1 ∷ [])) (refl {a = true}),
+      (
+        block-bytes (Y 7 5) (refl {a = true}),
+        (block-bytes (take 27 (X 20 0)) (refl {a = true}), (block-bytes (order 20 0 (1 ∷ 1 ∷ 1 ∷ [])) (refl {a = true}), (tt, (tt, tt)))),
+      ),
+    ),
+  ),
+)
 
 logged-allowed : AllAllowed (opened 2) loggedCalls
 unfolding readRow opened loggedCalls X Y order started afterCall outcome
