@@ -1,9 +1,10 @@
 // What the ended lines make of a log: the lines counted, the first of another form, the first that disagrees, the ticks that passed.
 ghost use mathlib.Core.Path.{_≡_};
-ghost use Prim.Native.Nat.{_≤_};
+ghost use Prim.Native.Nat.{_<_, min};
 ghost use lib.ListN.{length};
+ghost use Rattle.model.specs.Limits.{maxLive};
 ghost use Rattle.model.specs.Layout.{imageSize};
-ghost use Rattle.model.specs.Image.{decode};
+ghost use Rattle.model.specs.Image.{liveCount, decode};
 ghost use Rattle.log_model.specs.Reading as defined;
 use image::layout::IMAGE_SIZE;
 use image::layout::LIVE_COUNT_AT;
@@ -12,30 +13,35 @@ use image::layout::RECORDS_AT;
 use image::layout::STATION_AT;
 use log_model::Rerun;
 use log_model::limits::LAST_LINE;
+use model::limits::MAX_LIVE;
 use model::limits::MAX_STATIONS;
 
 const MOST_32: u32 = 4294967295;
 
+const RECORDS: usize = MAX_LIVE as usize;
+
+// The number after a line's. Ruled out: 0 after any line but the last that is counted.
 fn next_line(k: u64) -> u64
     ensures { λ r. ⌜ r ≡ defined.nextLine k ⌝ }
 {
     if k < LAST_LINE { k + 1 } else { 0 }
 }
 
+// A figure one higher. Ruled out: 0 after the largest; the figure as it was.
 fn one_more(x: u32) -> u32
     ensures { λ r. ⌜ r ≡ defined.oneMore x ⌝ }
 {
     if x < MOST_32 { x + 1 } else { x }
 }
 
-// Whether there is nothing left to find. Ruled out: a log that differs counted as settled.
+// Whether there is nothing left to find. Ruled out: a log that differs counted as settled; one of eight stations.
 pub fn settled(r: Rerun) -> bool
     ensures { λ b. ⌜ b ≡ defined.settled r ⌝ }
 {
     (r.line == 0) | (r.refused != 0) | (MAX_STATIONS < r.stations)
 }
 
-// A line of another form. Ruled out: the number of the line after it.
+// A line of another form. Ruled out: the number of the line after it; a line more counted.
 pub fn refused_here(r: Rerun) -> Rerun
     ensures { λ s. ⌜ s ≡ defined.refusedHere r ⌝ }
 {
@@ -44,7 +50,7 @@ pub fn refused_here(r: Rerun) -> Rerun
     s
 }
 
-// A line that is passed over.
+// A line that is passed over. Ruled out: a line that is not counted; one that counts as a difference.
 pub fn passed_by(r: Rerun) -> Rerun
     ensures { λ s. ⌜ s ≡ defined.passedBy r ⌝ }
 {
@@ -53,7 +59,7 @@ pub fn passed_by(r: Rerun) -> Rerun
     s
 }
 
-// The first line opens a cabinet of n stations.
+// The first line opens a cabinet of n stations. Ruled out: the stations of an earlier one; the first line's number for the next.
 pub fn opened_with(n: u32, r: Rerun) -> Rerun
     ensures { λ s. ⌜ s ≡ defined.openedWith n r ⌝ }
 {
@@ -63,7 +69,8 @@ pub fn opened_with(n: u32, r: Rerun) -> Rerun
     s
 }
 
-// A line that was compared. Ruled out: the next line's number for one that disagrees.
+// A line that was compared. Ruled out: the next line's number for one that disagrees; a line that
+// disagrees passed over.
 pub fn compared_by(same: bool, r: Rerun) -> Rerun
     ensures { λ s. ⌜ s ≡ defined.comparedBy same r ⌝ }
 {
@@ -73,24 +80,39 @@ pub fn compared_by(same: bool, r: Rerun) -> Rerun
     s
 }
 
-// The stations where an order is, of any image. Ruled out: a station counted from 0; those of the first order alone.
+fn wide(x: u8) -> usize
+    ensures { λ r. ⌜ (r ≡ x) × (r < 256) ⌝ }
+{
+    x as usize
+}
+
+// How many records are live, of any image: it has room for 32 of them, whatever it says. Ruled out: 33 of 33; 31 of 32.
+fn live_records(image: &[u8]) -> usize
+    requires { ⌜ length (now image) ≡ imageSize ⌝ }
+    ensures { λ r. ⌜ r ≡ min (liveCount (now (image .entry))) maxLive ⌝ }
+{
+    let live = wide(image[LIVE_COUNT_AT]);
+    if live < RECORDS { live } else { RECORDS }
+}
+
+// The stations where an order is. Ruled out: a station counted from 0; those of the first order alone.
 pub fn occupied(image: &[u8; IMAGE_SIZE]) -> [bool; 8]
     ensures { λ r. ⌜ r ≡ defined.occupied (decode (now (image .entry)) .orders) ⌝ }
 {
+    let count = live_records(image);
     let mut here = [false; 8];
-    let mut i: usize = 0;
-    while i < 32 {
-        if i < image[LIVE_COUNT_AT] as usize {
-            let station = image[RECORDS_AT + RECORD_SIZE * i + STATION_AT] as usize;
-            if (1 <= station) & (station <= 8) {
-                here[station - 1] = true;
-            }
+    let mut i = 0;
+    while i < count {
+        let station = wide(image[RECORDS_AT + RECORD_SIZE * i + STATION_AT]);
+        if (1 <= station) & (station <= 8) {
+            here[station - 1] = true;
         }
         i += 1;
     }
     here
 }
 
+// A tick more for each station where an order is. Ruled out: a tick more for each; a tick for the station after it.
 fn counted(here: [bool; 8], busy: [u32; 8]) -> [u32; 8]
     ensures { λ r. ⌜ r ≡ defined.counted here busy ⌝ }
 {

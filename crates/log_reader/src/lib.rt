@@ -5,4 +5,5 @@ pub mod counts; // the lines counted, and the busy ticks
 pub mod calls; // the call that a line records, made and compared
 pub mod lines; // a line that has ended
 pub mod feed; // the bytes of a log, chunk by chunk
+pub mod rounding; // the last column
 pub mod print; // what is printed at the end

@@ -1,0 +1,2 @@
+-- Busy ticks, station by station, and the stations where an order is.
+pub mod CountLaws

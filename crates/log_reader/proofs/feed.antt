@@ -1,0 +1,2 @@
+-- What one byte more makes of what was fed.
+pub mod FeedLaws

@@ -1,0 +1,2 @@
+-- How large the last column gets.
+pub mod ShareLaws
