@@ -1,2 +1,3 @@
--- What one byte more makes of what was fed.
+-- What one byte more makes of what was fed, and what is reached by chunks of bytes.
 pub mod FeedLaws
+pub mod ReachedLaws
