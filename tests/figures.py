@@ -31,7 +31,7 @@ PAGES = ["README.md", "firmware/README.md"]
 
 # Where the bare figures are looked for, and what of it is left out: what others deliver, what is stored, and texts of the crates.
 FOLDERS = ["tests", "bench", "firmware", "include"]
-LEFT_OUT = ["tests/second-simulator", "tests/plan/tables", "tests/fuzz/seeds", "tests/mutants", "tests/level"]
+LEFT_OUT = ["tests/second-simulator", "tests/plan/tables", "tests/rerun/logs", "tests/fuzz/seeds", "tests/mutants", "tests/level"]
 
 wrong = []
 
