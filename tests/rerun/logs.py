@@ -210,8 +210,8 @@ def ends(lines):
     keep("no-byte", b"")
     for name, data in (("no-line-feed", whole[:-1]), ("no-line-feed-after-order", text(lines[:4])[:-1]), ("no-line-feed-after-stations", b"N 2"),
                        ("cut-in-a-number", text(lines[:4])[:-7]), ("cut-after-a-letter", text(lines[:5]) + b"T"),
-                       ("cut-after-a-space", text(lines[:5]) + b"T "), ("letter-n", b"N"), ("line-feed", b"\n"), ("line-feeds", b"\n\n\n"), ("space", b" "), ("zero-byte", b"\0"),
-                       ("stations-last", text(lines[1:] + lines[:1])), ("no-stations", text(lines[1:])), ("tick-alone", b"T 0\n"),
+                       ("cut-after-a-space", text(lines[:5]) + b"T "), ("letter-n", b"N"), ("line-feed", b"\n"), ("line-feeds", b"\n\n\n"), ("space", b" "),
+                       ("zero-byte", b"\0"), ("stations-last", text(lines[1:] + lines[:1])), ("no-stations", text(lines[1:])), ("tick-alone", b"T 0\n"),
                        ("differs-and-no-line-feed", text(changed(lines, 2, 6, "11"))[:-1])):
         keep(name, data)
 
