@@ -2,7 +2,7 @@
 pub mod Fields
 -- What the fields of an order fit, and how a line begins.
 pub mod Orders
--- What feeding some bytes comes to.
+-- What some bytes more lead to.
 pub mod Reached
 -- The parts of what is printed.
 pub mod Printed

@@ -65,7 +65,7 @@ fn first_costs(n: usize, values: [u32; MAX_FIELDS]) -> [u16; 8]
     costs
 }
 
-// The order's block. Ruled out: the first rank as its due-in.
+// The order's block. Ruled out: the first rank as its due-in; the costs before the ranks.
 fn block_of(n: usize, values: [u32; MAX_FIELDS]) -> [u8; BLOCK_SIZE]
     requires { ⌜ OrderFits n values ⌝ }
     ensures { λ r. ⌜ r ≡ blockBytes (orderOf n values) ⌝ }

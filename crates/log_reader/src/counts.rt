@@ -20,7 +20,7 @@ const MOST_32: u32 = 4294967295;
 
 const RECORDS: usize = MAX_LIVE as usize;
 
-// The number after a line's. Ruled out: 0 after any line but the last that is counted.
+// The number after a line's. Ruled out: 0 after any line but the last that is counted; 1 after that one.
 fn next_line(k: u64) -> u64
     ensures { λ r. ⌜ r ≡ defined.nextLine k ⌝ }
 {
@@ -69,8 +69,7 @@ pub fn opened_with(n: u32, r: Rerun) -> Rerun
     s
 }
 
-// A line that was compared. Ruled out: the next line's number for one that disagrees; a line that
-// disagrees passed over.
+// A line that was compared. Ruled out: the next line's number for one that disagrees; a line that disagrees passed over.
 pub fn compared_by(same: bool, r: Rerun) -> Rerun
     ensures { λ s. ⌜ s ≡ defined.comparedBy same r ⌝ }
 {

@@ -30,15 +30,15 @@ pub fn begin() -> Reading
     }
 }
 
-// How much of a line is held. Ruled out: more bytes than there is room for; fewer than a line of 220 has.
+// How many bytes of a line there are, of any state: there is room for 220 of them. Ruled out: 221 of 221; 219 of 220.
 fn held_end(held: usize) -> usize
     ensures { λ r. ⌜ r ≡ min held maxLine ⌝ }
 {
     if held < MAX_LINE { held } else { MAX_LINE }
 }
 
-// The bytes of a chunk in turn: one is held while there is room, and a line feed ends a line. Ruled out: the start of a long line taken for
-// a line; a line that two chunks share cut in two.
+// The bytes of a chunk in turn: one is held while there is room, and a line feed ends a line. Ruled out: a line feed held as a byte
+// of a line; a line that two chunks share cut in two.
 pub fn feed(s: Reading, image: &mut [u8; IMAGE_SIZE], chunk: &[u8]) -> Reading
     ensures { λ r. ⌜ record { reading = r; image = now (image .exit) } ≡ fedAll (record { reading = s; image = now (image .entry) }) (now (chunk .entry)) ⌝ }
 {

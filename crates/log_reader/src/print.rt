@@ -83,7 +83,11 @@ fn put_same(out: &mut [u8], all: u32, busy: [u32; 8], n: usize) -> usize
 fn line_count(stations: u32) -> usize
     ensures { λ r. ⌜ r ≡ min stations maxStations ⌝ }
 {
-    if stations < MAX_STATIONS { stations as usize } else { MAX_STATIONS as usize }
+    if stations < MAX_STATIONS {
+        stations as usize
+    } else {
+        MAX_STATIONS as usize
+    }
 }
 
 // The result of a log of the form. Ruled out: `same` for one that differs; the lines of eight stations for each cabinet.

@@ -10,7 +10,7 @@ use Rattle.model.specs.Image.{decode}
 use Rattle.model.specs.Calls.{perform}
 use Rattle.dispatcher.specs.Gives.{Gives}
 use Rattle.log_model.specs.declared.Rerun.{Rerun}
-use Rattle.log_model.specs.Lines.{Line, offered, advanced, callOf, numberOf, ticketOf}
+use Rattle.log_model.specs.Lines.{Line, advanced, callOf, numberOf, ticketOf}
 use Rattle.log_model.specs.Rerun.{lentReply, agrees}
 use Rattle.log_model.specs.Reading.{Ran, occupied, tickPassed, afterLine, comparedBy, ranLine}
 

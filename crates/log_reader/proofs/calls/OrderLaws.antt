@@ -1,9 +1,9 @@
 -- The first so many values from a place on, with zeros after them, as a loop that fills an array finds them.
-use mathlib.Core.Path.{_≡_, sym, ap, _∙_}
+use mathlib.Core.Path.{_≡_, sym, _∙_}
 use mathlib.Core.List.{List, _++_}
-use Prim.Native.Nat.{ℕ, _+_, _-_, _≤_, _<_}
+use Prim.Native.Nat.{ℕ, _+_, _-_, _≤_}
 use native.Mathlib.Omega.{arith}
-use lib.ListN.{length, getD, take, drop, replicate, length-drop}
+use lib.ListN.{length, getD, drop, replicate, length-drop}
 use lib.Seq.{getD-drop, length-take-le}
 use Rattle.model.specs.Limits.{maxStations}
 use Rattle.model.specs.Lists.{part, upward}

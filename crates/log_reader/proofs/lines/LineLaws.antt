@@ -1,8 +1,8 @@
 -- A line by its letter and its fields: which form it has, and what it records. A line has one letter, and zeros after its values change none of them.
-use mathlib.Core.Path.{_≡_, refl, sym, ap, _∙_}
+use mathlib.Core.Path.{_≡_, refl, sym, _∙_}
 use mathlib.Core.Bool.{Bool, true, false, not, _&&_, _||_}
-use mathlib.Core.List.{List, [], _∷_, _++_, map}
-use Prim.Native.Nat.{ℕ, zero, suc, _+_, _*_, _-_, _≤_, _<_}
+use mathlib.Core.List.{List, [], _∷_, _++_}
+use Prim.Native.Nat.{ℕ, zero, suc, _+_, _*_, _-_, _≤_}
 use native.Mathlib.Omega.{arith}
 use lib.ListN.{length, getD, take, drop, replicate, length-append, length-replicate, length-drop, length-map}
 use lib.Seq.{take-all, take-append-le, drop-append-le}
@@ -11,10 +11,9 @@ use borrow.Author.Tests.{leb-true, eqb-true, ne-eqb}
 use Rattle.model.specs.Limits.{maxStations}
 use Rattle.model.specs.Lists.{part, within}
 use Rattle.lists.proofs.Tests.{and-both, and-false, or-false, inside}
-use Rattle.text.specs.Number.{valueOf}
 use Rattle.text.specs.Parts.{space, words}
-use Rattle.log_model.specs.Limits.{most8, most16, most32}
-use Rattle.log_model.specs.Lines.{fitAll, hasForm, valuesOf, stationsOf, isStations, orderFields, isOffer, isAdvance, Line, advanced, offeredBy, lineOf}
+use Rattle.log_model.specs.Limits.{most32}
+use Rattle.log_model.specs.Lines.{fitAll, valuesOf, stationsOf, isStations, orderFields, isOffer, isAdvance, advanced, offeredBy, lineOf}
 use Rattle.log_model.specs.Output.{isCall}
 use Rattle.log_reader.specs.declared.fields.Fields.{Fields}
 use Rattle.log_reader.specs.Fields.{maxFields, fieldsIn}

@@ -32,7 +32,9 @@ turn-requires : tie.Need-turn-requires Inv-loop μ-loop
 turn-requires c κs = search needs
 
 returns : tie.Need-returns Inv-loop μ-loop
-returns c = reached-more (c .before .before .before .before .before .before .before .before .loop .inv .1) (c .before .before .before .before .turn .ensures)
+returns c =
+    let turn = c .before .before .before .before in
+    reached-more (turn .before .before .before .before .loop .inv .1) (turn .turn .ensures)
 
 sub-turns : tie.Need-sub-turns Inv-loop μ-loop
 sub-turns c = omega arith
@@ -41,7 +43,10 @@ loop-less : tie.Need-loop-less Inv-loop μ-loop
 loop-less c = omega arith
 
 loop-again : tie.Need-loop-again Inv-loop μ-loop
-loop-again c = (omega (arith, c .before .before .before .before .turn .kept, c .before .before .before .before .before .before .before .before .loop .inv .0), reached-more (c .before .before .before .before .before .before .before .before .loop .inv .1) (c .before .before .before .before .turn .ensures))
+loop-again c =
+    let turn = c .before .before .before .before in
+    let loop = turn .before .before .before .before .loop in
+    (omega (arith, turn .turn .kept, loop .inv .0), reached-more (loop .inv .1) (turn .turn .ensures))
 
 returns-2 : tie.Need-returns-2 Inv-loop μ-loop
 returns-2 c = c .before .loop .inv .1

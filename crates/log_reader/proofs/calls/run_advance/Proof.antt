@@ -28,8 +28,9 @@ compared-by-requires c κs = search needs
 returns : tie.Need-returns
 unfolding callOf perform
 returns c =
-    let a = c .before .before .before .before .before .before .before .before .before .before .args in
-    ran-line (advanced (a .ticket)) (a .r) (a .image .now) (c .before .before .before .before .before .dispatcher-advance .ensures) (c .before .before .u32-at .ensures)
+    let call = c .before .before .before .before .before in
+    let a = call .before .before .before .before .before .args in
+    ran-line (advanced (a .ticket)) (a .r) (a .image .now) (call .dispatcher-advance .ensures) (c .before .before .u32-at .ensures)
     (declined-passes (a .ticket) _ _ (a .r) (c .before .if1 .taken))
     (c .compared-by .ensures)
 
@@ -42,10 +43,13 @@ compared-by-requires-2 c κs = search needs
 returns-2 : tie.Need-returns-2
 unfolding callOf perform
 returns-2 c =
-    let a = c .before .before .before .before .before .before .before .before .before .before .before .args in
-    let here = c .before .before .before .before .before .before .before .before .before .occupied in
-    ran-line (advanced (a .ticket)) (a .r) (a .image .now) (c .before .before .before .before .before .before .dispatcher-advance .ensures) (c .before .before .before .u32-at .ensures)
-    (c .before .tick-passed .ensures ∙ rw (here .ensures) (done-passes (a .ticket) _ _ (a .r) (c .before .before .if1 .left)))
+    let done = c .before .before in
+    let call = done .before .before .before .before in
+    let found = call .before .before .before in
+    let a = found .before .before .args in
+    let passed = done-passes (a .ticket) _ _ (a .r) (done .if1 .left) in
+    ran-line (advanced (a .ticket)) (a .r) (a .image .now) (call .dispatcher-advance .ensures) (done .before .u32-at .ensures)
+    (c .before .tick-passed .ensures ∙ rw (found .occupied .ensures) passed)
     (c .compared-by2 .ensures)
 
 pub run-advance-spec : {M : Type 1} → statement M

@@ -56,10 +56,11 @@ compared-by-requires c κs = search needs
 returns : tie.Need-returns
 unfolding offeredBy callOf perform afterLine
 returns c =
-    let a = c .before .before .before .before .before .before .before .before .before .args in
-    let offer = c .before .before .before .before .dispatcher-offer in
-    let block = c .before .before .before .before .before .before .before .before .block-of in
-    ran-line (offeredBy (a .n) (a .t4)) (a .r) (a .image .now) (rw (block .ensures) at (offer .ensures)) (c .before .u32-at .ensures) refl (c .compared-by .ensures)
+    let call = c .before .before .before .before in
+    let block = call .before .before .before .before in
+    let a = block .before .args in
+    let given = rw (block .block-of .ensures) at (call .dispatcher-offer .ensures) in
+    ran-line (offeredBy (a .n) (a .t4)) (a .r) (a .image .now) given (c .before .u32-at .ensures) refl (c .compared-by .ensures)
 
 pub run-offer-spec : {M : Type 1} → statement M
 run-offer-spec =

@@ -56,7 +56,9 @@ loop-again c =
     let image = c .before .before .before .before .before .before .before .args .image .now in
     let loop = c .before .before .before .before .loop in
     let read = c .before .wide .ensures .0 in
-    (omega arith, ⊎-elim (λ w. w .1 ∙ record-at image (loop .i) _ _ read (loop .inv .1) (w .0 .taken)) (λ w. w .1 ∙ record-away image (loop .i) _ _ read (loop .inv .1) (w .0 .left)) (c .if1 .came))
+    let at = record-at image (loop .i) _ _ read (loop .inv .1) in
+    let away = record-away image (loop .i) _ _ read (loop .inv .1) in
+    (omega arith, ⊎-elim (λ w. w .1 ∙ at (w .0 .taken)) (λ w. w .1 ∙ away (w .0 .left)) (c .if1 .came))
 
 returns : tie.Need-returns Inv-loop μ-loop
 returns c =

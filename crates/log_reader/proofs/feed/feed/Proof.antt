@@ -59,11 +59,13 @@ loop-again c =
     let b = getD (a .chunk .now) (loop .i) 0 in
     let before = fed (loop .rerun) (loop .pending) (loop .held) (loop .image) in
     let after : (length (c .if1 .pending) ≡ maxLine) × (fed (c .if1 .rerun) (c .if1 .pending) (c .if1 .held) (c .if1 .image) ≡ fedByte before b) =
-        elim (c .if1 .came) [
-          inl w ↦ rw (w .5, w .6, w .7, w .8) (loop .inv .1, line-fed _ _ _ _ b _ (w .0 .taken) (loop .inv .1) (w .1 .ensures) (w .4 .ensures))
-        | inr v ↦ elim v [
-          inl w ↦ rw (w .2, w .3, w .4, w .5) (length-set (loop .pending) (loop .held) b ∙ loop .inv .1, byte-held _ _ _ _ b (w .0 .left) (w .1 .taken))
-        | inr w ↦ rw (w .2, w .3, w .4, w .5) (loop .inv .1, byte-passed _ _ _ _ b (w .0 .left) (w .1 .left)) ] ] in
+    elim (c .if1 .came) [
+      | inl w ↦ rw (w .5, w .6, w .7, w .8) (loop .inv .1, line-fed _ _ _ _ b _ (w .0 .taken) (loop .inv .1) (w .1 .ensures) (w .4 .ensures))
+      | inr v ↦ elim v [
+        | inl w ↦ rw (w .2, w .3, w .4, w .5) (length-set (loop .pending) (loop .held) b ∙ loop .inv .1, byte-held _ _ _ _ b (w .0 .left) (w .1 .taken))
+        | inr w ↦ rw (w .2, w .3, w .4, w .5) (loop .inv .1, byte-passed _ _ _ _ b (w .0 .left) (w .1 .left))
+      ]
+    ] in
     (omega arith, after .0, fed-more _ _ (loop .i) (omega arith) (loop .inv .2) (after .1))
 
 returns : tie.Need-returns Inv-loop μ-loop

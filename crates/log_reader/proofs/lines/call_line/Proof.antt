@@ -1,8 +1,8 @@
 -- `call_line` by the letter of the line.
 use mathlib.Core.Path.{sym, _∙_}
+use borrow.Author.Needs.{needs}
 use Rattle.log_reader.proofs.lines.LineLaws.{no-call}
 use Rattle.log_reader.proofs.lines.EndLaws.{call-refused}
-use borrow.Author.Needs.{needs}
 use Rattle.log_reader.proofs.lines.call_line.Statement.{statement}
 use Rattle.log_reader.proofs.lines.call_line.Tie as tie
 
@@ -29,10 +29,10 @@ refused-here-requires c κs = search needs
 
 returns-3 : tie.Need-returns-3
 returns-3 c =
-    let a = c .before .before .before .before .before .before .args in
-    rw (c .refused-here .ensures)
-    (call-refused (a .r) (a .image .now) (a .line .now)
-    (no-call (a .line .now) (a .r .stations) (sym (c .before .before .before .before .begins-with .ensures) ∙ c .before .before .before .if1 .left) (sym (c .before .before .begins-with2 .ensures) ∙ c .before .if2 .left)))
+    let other = c .before in
+    let no-advance = sym (other .before .before .before .begins-with .ensures) ∙ other .before .before .if1 .left in
+    let no-offer = sym (other .before .begins-with2 .ensures) ∙ other .if2 .left in
+    rw (c .refused-here .ensures) (call-refused _ _ _ (no-call _ _ no-advance no-offer))
 
 pub call-line-spec : {M : Type 1} → statement M
 call-line-spec =

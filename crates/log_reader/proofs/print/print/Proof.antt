@@ -42,18 +42,24 @@ put-refused-requires-2 c κs =
 
 returns-3 : tie.Need-returns-3
 returns-3 c =
-    let s = c .before .before .before .before .before .before .before .before .before .before .args .s in
+    let unfinished = c .before .before in
+    let counted = unfinished .before .before .before in
+    let none = counted .before .before in
+    let s = none .before .before .before .args .s in
     let p = c .put-refused2 .ensures in
-    (rw (prints-unfinished s (c .before .before .before .before .before .before .before .if1 .left) (c .before .before .before .before .before .if2 .left) (c .before .before .if3 .taken)) p, omega (arith, p .place, refused-room (s .rerun .line) (omega arith)))
+    (rw (prints-unfinished s (none .if1 .left) (counted .if2 .left) (unfinished .if3 .taken)) p, omega (arith, p .place, refused-room (s .rerun .line) (omega arith)))
 
 put-result-requires : tie.Need-put-result-requires
 put-result-requires c κs = omega (arith, end-room (c .before .before .before .before .before .before .before .before .before))
 
 returns-4 : tie.Need-returns-4
 returns-4 c =
-    let s = c .before .before .before .before .before .before .before .before .before .before .args .s in
+    let finished = c .before .before in
+    let counted = finished .before .before .before in
+    let none = counted .before .before in
+    let start = none .before .before .before in
     let p = c .put-result .ensures in
-    (rw (prints-result s (c .before .before .before .before .before .before .before .if1 .left) (c .before .before .before .before .before .if2 .left) (c .before .before .if3 .left)) p, omega (arith, p .place, end-room (c .before .before .before .before .before .before .before .before .before .before)))
+    (rw (prints-result (start .args .s) (none .if1 .left) (counted .if2 .left) (finished .if3 .left)) p, omega (arith, p .place, end-room start))
 
 pub print-spec : {M : Type 1} → statement M
 print-spec =

@@ -13,17 +13,25 @@ put-bytes-requires : tie.Need-put-bytes-requires
 put-bytes-requires c κs = omega (arith, length-differs (c .before .before .before .args .k))
 
 put-decimal-requires : tie.Need-put-decimal-requires
-put-decimal-requires c κs = omega (arith, length-differs (c .before .before .before .before .before .before .before .args .k))
+put-decimal-requires c κs =
+    let k = c .before .before .before .before .before .before .before .args .k in
+    omega (arith, length-differs k)
 
 put-byte-requires : tie.Need-put-byte-requires
-put-byte-requires c κs = omega (arith, length-differs (c .before .before .before .before .before .before .before .before .before .before .before .args .k))
+put-byte-requires c κs =
+    let k = c .before .before .before .before .before .before .before .before .before .before .before .args .k in
+    omega (arith, length-differs k)
 
 same-length : tie.Need-same-length
 same-length c = omega arith
 
 returns : tie.Need-returns
 unfolding differsLine
-returns c = put-then (put-then (c .before .before .before .before .before .before .before .before .before .before .put-bytes .ensures) (c .before .before .before .before .before .before .put-decimal .ensures)) (c .before .before .put-byte .ensures)
+returns c =
+    let third = c .before .before in
+    let second = third .before .before .before .before in
+    let first = second .before .before .before .before in
+    put-then (put-then (first .put-bytes .ensures) (second .put-decimal .ensures)) (third .put-byte .ensures)
 
 pub put-differs-spec : {M : Type 1} → statement M
 put-differs-spec =

@@ -12,17 +12,24 @@ slice-aggregate-put-bytes : tie.Need-slice-aggregate-put-bytes
 slice-aggregate-put-bytes c = omega arith
 
 put-bytes-requires : tie.Need-put-bytes-requires
-put-bytes-requires c κs = let a = c .before .before .before .args in omega (arith, length-same (a .all) (take (a .n) (a .busy)))
+put-bytes-requires c κs =
+    let a = c .before .before .before .args in
+    omega (arith, length-same (a .all) (take (a .n) (a .busy)))
 
 put-stations-requires : tie.Need-put-stations-requires
-put-stations-requires c κs = let a = c .before .before .before .before .before .before .before .args in omega (arith, length-same (a .all) (take (a .n) (a .busy)))
+put-stations-requires c κs =
+    let a = c .before .before .before .before .before .before .before .args in
+    omega (arith, length-same (a .all) (take (a .n) (a .busy)))
 
 same-length : tie.Need-same-length
 same-length c = omega arith
 
 returns : tie.Need-returns
 unfolding sameLines stationLines
-returns c = put-then (c .before .before .before .before .before .before .put-bytes .ensures) (c .before .before .put-stations .ensures)
+returns c =
+    let second = c .before .before in
+    let first = second .before .before .before .before in
+    put-then (first .put-bytes .ensures) (second .put-stations .ensures)
 
 pub put-same-spec : {M : Type 1} → statement M
 put-same-spec =

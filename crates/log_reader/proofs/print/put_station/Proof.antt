@@ -15,17 +15,21 @@ thousandths-requires : tie.Need-thousandths-requires
 thousandths-requires c κs = search needs
 
 put-start-requires : tie.Need-put-start-requires
-put-start-requires c κs = let a = c .before .before .before .args in omega (arith, length-station (a .all) (a .k) (a .busy))
+put-start-requires c κs =
+    let a = c .before .before .before .args in
+    omega (arith, length-station (a .all) (a .k) (a .busy))
 
 put-decimal-requires : tie.Need-put-decimal-requires
 put-decimal-requires c κs =
-    let a = c .before .before .before .before .before .before .before .args in
-    omega (arith, length-station (a .all) (a .k) (a .busy), ap (λ (v : ℕ). length (decimal v)) (c .before .before .before .before .before .thousandths .ensures))
+    let share = c .before .before .before .before .before in
+    let a = share .before .before .args in
+    omega (arith, length-station (a .all) (a .k) (a .busy), ap (λ (v : ℕ). length (decimal v)) (share .thousandths .ensures))
 
 put-byte-requires : tie.Need-put-byte-requires
 put-byte-requires c κs =
-    let a = c .before .before .before .before .before .before .before .before .before .before .before .args in
-    omega (arith, length-station (a .all) (a .k) (a .busy), ap (λ (v : ℕ). length (decimal v)) (c .before .before .before .before .before .before .before .before .before .thousandths .ensures))
+    let share = c .before .before .before .before .before .before .before .before .before in
+    let a = share .before .before .args in
+    omega (arith, length-station (a .all) (a .k) (a .busy), ap (λ (v : ℕ). length (decimal v)) (share .thousandths .ensures))
 
 same-length : tie.Need-same-length
 same-length c = omega arith
@@ -33,8 +37,11 @@ same-length c = omega arith
 returns : tie.Need-returns
 unfolding stationLine
 returns c =
-    rw (← c .before .before .before .before .before .before .before .before .before .before .before .before .thousandths .ensures)
-    (put-then (put-then (c .before .before .before .before .before .before .before .before .before .before .put-start .ensures) (c .before .before .before .before .before .before .put-decimal .ensures)) (c .before .before .put-byte .ensures))
+    let third = c .before .before in
+    let second = third .before .before .before .before in
+    let first = second .before .before .before .before in
+    rw (← first .before .before .thousandths .ensures)
+    (put-then (put-then (first .put-start .ensures) (second .put-decimal .ensures)) (third .put-byte .ensures))
 
 pub put-station-spec : {M : Type 1} → statement M
 put-station-spec =

@@ -30,8 +30,10 @@ array-read-put-station c = omega arith
 
 put-station-requires : tie.Need-put-station-requires Inv-loop μ-loop
 put-station-requires c κs =
-    let a = c .before .before .before .before .args in
-    printed-room (stationRow (a .all) (a .t4)) (a .n) (c .before .before .loop .inv .1) (omega arith) (rw (station-rows (a .all) (a .n) (a .t4) (search needs)) at (c .before .before .before .before .pre .1))
+    let start = c .before .before .before .before in
+    let a = start .args in
+    let room = rw (station-rows (a .all) (a .n) (a .t4) (search needs)) at (start .pre .1) in
+    printed-room (stationRow (a .all) (a .t4)) (a .n) (c .before .before .loop .inv .1) (omega arith) room
 
 add-i : tie.Need-add-i Inv-loop μ-loop
 add-i c = omega arith
