@@ -30,7 +30,8 @@ plan_model  log_model   delay      image_laws  image       image       image
 plan_core   log_model   delay      call_laws   tick        soundness   soundness
 plan_text   log_model   runs       runs        tick        admission   image_text
 plan        log_laws    claims     claims      dispatcher  dispatcher  inspect
-planners    uses        auditor    auditor     log_reader  firmware    workshop
+planners    uses        auditor    auditor     log_lines   firmware    workshop
+trials      cases       soak       probe       log_reader  firmware    workshop
 trials      cases       soak       probe       rerun       van         workshop
 """
 COLUMNS = [128, 128, 110, 126, 118, 140, 136]  # widths
@@ -59,6 +60,7 @@ CRATES = {
     "dispatcher": ("code", "the C interface: open, quote, offer, advance"),
     "image_text": ("code", "an image explained"),
     "inspect": ("code", "the program: an image in, text out"),
+    "log_lines": ("code", "a line of a log, its call made and compared"),
     "log_reader": ("code", "a log of any length, fed in chunks"),
     "rerun": ("code", "the program: a log in, its verdict out"),
     "plan_core": ("code", "the figures of every task of a lent list"),
@@ -87,7 +89,8 @@ ARROWS = {
     "log_model": "text",
     "runs": "delay call_laws",
     "log_laws": "runs log_model",
-    "log_reader": "dispatcher",
+    "log_lines": "dispatcher",
+    "log_reader": "log_lines",
     "rerun": "log_reader",
     "plan_core": "plan_model",
     "plan_text": "plan_core",
@@ -106,7 +109,7 @@ ARROWS = {
 }
 NOTES = {
     "claims": "plan_model",
-    "log_reader": "log_model",
+    "log_lines": "log_model",
     "admission": "call_laws",
     "image_text": "text",
     "trials": "image_text",

@@ -17,12 +17,8 @@ use Rattle.schedule.proofs.Laws.{by-cond}
 use Rattle.log_model.specs.declared.Reading.{Reading}
 use Rattle.log_model.specs.Limits.{maxLine}
 use Rattle.log_model.specs.Reading.{Ran, lineEnded, Fed, heldLine, holding, fedLineFeed, fedByte, fedAll, begun}
+use Rattle.log_model.proofs.Feeding.{fed-append}
 use Rattle.log_laws.specs.Meaning.{WhateverChunks}
-
-pub fed-append : (f : Fed) (xs ys : List ℕ) → fedAll f (xs ++ ys) ≡ fedAll (fedAll f xs) ys
-unfolding fedAll
-fed-append f [] ys = refl
-fed-append f (b ∷ xs) ys = fed-append (fedByte f b) xs ys
 
 pub whatever-chunks : WhateverChunks
 unfolding concat fedAll

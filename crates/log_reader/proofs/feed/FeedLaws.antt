@@ -13,15 +13,11 @@ use Rattle.lists.proofs.Tests.{either}
 use Rattle.log_model.specs.declared.Rerun.{Rerun}
 use Rattle.log_model.specs.Limits.{maxLine}
 use Rattle.log_model.specs.Reading.{Ran, lineEnded, Fed, heldLine, holding, fedLineFeed, fedByte, fedAll}
+use Rattle.log_model.proofs.Feeding.{fed-append}
 
 -- What was fed, by its parts.
 abbrev pub fed : Rerun → List ℕ → ℕ → List ℕ → Fed
 fed rerun pending held image = record { reading = record { rerun = rerun; pending = pending; held = held }; image = image }
-
-pub fed-append : (f : Fed) (xs ys : List ℕ) → fedAll f (xs ++ ys) ≡ fedAll (fedAll f xs) ys
-unfolding fedAll
-fed-append f [] ys = refl
-fed-append f (x ∷ xs) ys = fed-append (fedByte f x) xs ys
 
 pub fed-none : (f : Fed) → f ≡ fedAll f []
 unfolding fedAll

@@ -2,8 +2,9 @@
 use mathlib.Core.Path.{sym, _∙_}
 use mathlib.Core.List.{[], _++_}
 use Rattle.log_model.specs.Reading.{Fed}
+use Rattle.log_model.proofs.Feeding.{fed-append}
 use Rattle.log_reader.specs.Reached.{Reached}
-use Rattle.log_reader.proofs.feed.FeedLaws.{fed-none, fed-append}
+use Rattle.log_reader.proofs.feed.FeedLaws.{fed-none}
 
 pub reached-none : (f : Fed) → Reached f f
 reached-none f = record { bytes = []; fed = fed-none f }
