@@ -1,16 +1,18 @@
 /* cabinet.c: an example of a cabinet's firmware, to start from. Orders come as lines on standard input (counter.h), answers and the motors' work go as lines
- * to standard output (telling.h), the image is kept in a file (image_store.h), and a tick passes every 0.1 s. README.md says how to run it and what a power
- * cut does.
+ * to standard output (telling.h), the image is kept in a file (image_store.h) and, if one is asked for, a log in another (call_log.h), and a tick passes every
+ * 0.1 s. README.md says how to run it and what a power cut does.
  *
- *     cabinet [--image FILE] [--stations N] [--sheet FILE] [--tick MILLISECONDS]
+ *     cabinet [--image FILE] [--stations N] [--sheet FILE] [--log FILE] [--tick MILLISECONDS]
  *
- * One rule holds everywhere: a call changes the image in memory, the image is stored, and only then is anybody told. */
+ * One rule holds everywhere: a call changes the image in memory, its line is logged, the image is stored, and only then is anybody told. */
 #define _POSIX_C_SOURCE 200809L
+#include "call_log.h"
 #include "counter.h"
 #include "dispatcher.h"
+#include "files.h"
+#include "format_block.h"
 #include "image_store.h"
 #include "image_view.h"
-#include "read_file.h"
 #include "stop.h"
 #include "telling.h"
 #include "text.h"
@@ -26,9 +28,11 @@
 struct cabinet {
     const char *path;
     const char *sheet_path; /* NULL: there is no sheet, and no order by format is taken */
+    const char *log_path;   /* NULL: no log is kept */
     long long stations;     /* of the command line; -1 if it has none */
     long long tick;         /* nanoseconds; 0: ticks pass in `wait` alone, and there at once */
     struct image_store store;
+    struct call_log log;
     uint8_t image[DISPATCHER_IMAGE_SIZE];
     uint8_t reply[DISPATCHER_REPLY_SIZE];
     uint8_t sheet[DISPATCHER_SHEET_SIZE];
@@ -38,6 +42,33 @@ static void store(const struct cabinet *cabinet)
 {
     if (image_store_save(&cabinet->store, cabinet->image, sizeof cabinet->image) < 0)
         stop(STORE_FAILED, "cannot store the image %s: %s. What was not stored was not told.", cabinet->path, strerror(errno));
+}
+
+/* What became of the log: of a call's line, 0 or -1; of its beginning or its end at a start, 1, 0 or -1. */
+static void logged(const struct cabinet *cabinet, int result)
+{
+    if (result < 0)
+        stop(STORE_FAILED, "cannot write the log %s: %s. What was not logged was not told.", cabinet->log_path, strerror(errno));
+}
+
+static void log_fits(const struct cabinet *cabinet, int result)
+{
+    logged(cabinet, result);
+    if (result == 0)
+        stop(LOG_REFUSED, "the log %s is not that of the image %s, from its opening to now. Both files are left as they are. Without --log the cabinet runs; a "
+             "log begins when a cabinet is opened.", cabinet->log_path, cabinet->path);
+}
+
+/* An order by format stands in the log as its block. One that no line can hold has none. */
+static void log_offer(const struct cabinet *cabinet, const struct request *request)
+{
+    uint8_t order[DISPATCHER_ORDER_SIZE];
+    memcpy(order, request->order, sizeof order);
+    if (cabinet->log_path == NULL)
+        return;
+    if (request->format != 0 && (cabinet->sheet_path == NULL || !format_block(order, request, cabinet->sheet, cabinet->log.stations)))
+        return;
+    logged(cabinet, call_log_offer(&cabinet->log, order, cabinet->reply));
 }
 
 /* Before the image is looked at, so that with a wrong sheet no cabinet is opened. */
@@ -70,6 +101,8 @@ static void first_start(struct cabinet *cabinet)
     uint32_t number = dispatcher_open(cabinet->image, sizeof cabinet->image, (uint32_t)cabinet->stations, cabinet->reply, sizeof cabinet->reply);
     if (number != DISPATCHER_DONE)
         stop(BAD_USAGE, "the cabinet is not opened, number %u: %s.", (unsigned)number, in_words(number));
+    if (cabinet->log_path != NULL)
+        log_fits(cabinet, call_log_begin(&cabinet->log, cabinet->log_path, view_image(cabinet->image).stations));
     store(cabinet);
     tell_image("opened", cabinet->image);
 }
@@ -89,6 +122,8 @@ static void start(struct cabinet *cabinet)
     if (cabinet->stations >= 0 && cabinet->stations != view_image(bytes).stations)
         stop(IMAGE_REFUSED, "the image %s is of %u stations, and not of %lld.", cabinet->path, view_image(bytes).stations, cabinet->stations);
     memcpy(cabinet->image, bytes, sizeof cabinet->image);
+    if (cabinet->log_path != NULL)
+        log_fits(cabinet, call_log_resume(&cabinet->log, cabinet->log_path, view_image(bytes)));
     /* If the run before ended between rename and fsync, this image is not yet safe. So it is stored again before anything is told of it. */
     store(cabinet);
     tell_image("resumed", cabinet->image);
@@ -103,6 +138,8 @@ static void advance(struct cabinet *cabinet)
     if (number == DISPATCHER_CLOCK_ENDED)
         stop(CLOCK_ENDED, "no tick passes, number %u: %s. No order is live. Move the image %s away and open a new cabinet.", (unsigned)number, in_words(number),
              cabinet->path);
+    if (cabinet->log_path != NULL)
+        logged(cabinet, call_log_advance(&cabinet->log, cabinet->reply));
     store(cabinet);
     tell_advance(before, cabinet->image, cabinet->reply);
 }
@@ -126,9 +163,11 @@ static void answer(struct cabinet *cabinet, const struct request *request)
 {
     uint64_t due = (uint64_t)view_image(cabinet->image).clock + (request->ticks == 0 ? DISPATCHER_DEFAULT_DUE_IN : request->ticks);
     uint32_t number = call(cabinet, request);
+    refuse_damage(cabinet, number);
+    if (request->kind == OFFER)
+        log_offer(cabinet, request);
     if (number == DISPATCHER_DONE && request->kind == OFFER)
         store(cabinet);
-    refuse_damage(cabinet, number);
     if (number == DISPATCHER_BAD_ORDER_LENGTH)
         tell_no_sheet(); /* order blocks have their length here */
     else
@@ -208,10 +247,12 @@ int main(int count, char **words)
             cabinet.stations = (long long)decimal(value, UINT32_MAX);
         else if (strcmp(words[k], "--sheet") == 0 && value[0] != '\0')
             cabinet.sheet_path = value;
+        else if (strcmp(words[k], "--log") == 0 && value[0] != '\0')
+            cabinet.log_path = value;
         else if (strcmp(words[k], "--tick") == 0)
             cabinet.tick = (long long)decimal(value, 60000) * 1000000;
         else
-            stop(BAD_USAGE, "usage: cabinet [--image FILE] [--stations N] [--sheet FILE] [--tick MILLISECONDS]");
+            stop(BAD_USAGE, "usage: cabinet [--image FILE] [--stations N] [--sheet FILE] [--log FILE] [--tick MILLISECONDS]");
     }
     if (cabinet.sheet_path != NULL)
         load_sheet(&cabinet);

@@ -1,5 +1,6 @@
 """What the tests of the firmware example share: running the program, what an image says, and what the program has to tell of it, by documents 01 and 02."""
 import os
+import re
 import shutil
 import subprocess
 import sys
@@ -11,6 +12,10 @@ from level import LEVEL, at_level
 
 # The long sides of ISO 216, in millimetres. The formats are numbered from 1 in this order.
 LONG_SIDES = {"A1": 841, "A2": 594, "A3": 420, "A4": 297, "A5": 210, "B1": 1000, "B2": 707, "B3": 500, "B4": 353, "B5": 250}
+
+
+# The log stands in a folder of its own, in that of the image.
+LOG_FOLDER = "van"
 
 
 class Image:
@@ -80,21 +85,83 @@ def call(word, words, data):
     return word, block(words).hex()
 
 
-class Runner:
-    """Runs the program in a folder of its own, beside which a station sheet may lie."""
+def order_line(words, number, ticket, n, data):
+    """The line of the log for an offer `DUE_IN RANK:COST ..` or `DUE_IN RANK:FORMAT`, by document 02, (iv): an order by format as its block. None if no line
+    can hold the order: it has a rank or a cost beyond the last station, or a cost of more than two bytes, or the sheet leads to none."""
+    if number in (5, 19, 20):
+        return None
+    rank, name = words[1].split(":") if len(words) > 1 else ("0", "")
+    if name in LONG_SIDES:
+        ranks, costs = [int(rank)] * n, format_costs(name, data, n)
+    else:
+        pairs = [tuple(map(int, word.split(":"))) for word in words[1:]]
+        ranks, costs = ([pair[k] for pair in pairs] for k in (0, 1))
+        if any(ranks[n:]) or any(costs[n:]):
+            return None
+        ranks, costs = (row[:n] + [0] * (n - len(row)) for row in (ranks, costs))
+    if max(costs) >= 2**16:
+        return None
+    return " ".join(map(str, ["O", int(words[0]), *ranks, *costs, number, ticket]))
 
-    def __init__(self, program, shim, folder):
+
+def mended(log, image):
+    """What a start has to make of the log: the lines of the calls that the image knows and of declined orders, without the one line after them, or a part of
+    it, of a call that was cut off. None if it has to refuse the log. Without an image there is nothing but what is left of an opening."""
+    if image is None:
+        return b"" if len(log) <= len(b"N 8\n") else None
+    clock, ticket, kept = 0, 1, 0
+    form = {b"N": rb"N %d\n" % image.n, b"T": rb"T \d+\n", b"O": rb"O( \d+){%d}\n" % (2 * image.n + 3)}
+    for k, line in enumerate(log.splitlines(keepends=True)):
+        letter = line[:1]
+        if (letter == b"N") != (k == 0) or not re.fullmatch(form.get(letter, b""), line) or any(int(word) >= 2**32 for word in line.split()[1:]):
+            break
+        if letter == b"T":
+            if clock == image.clock:
+                break
+            clock += 1
+        if letter == b"O" and line.split()[-2] == b"0":
+            if ticket == image.next or int(line.split()[-1]) != ticket:
+                break
+            ticket += 1
+        kept += len(line)
+    rest = log[kept:]
+    if (clock, ticket) != (image.clock, image.next) or kept == 0 or b"\n" in rest[:-1] or len(rest) > 128:
+        return None
+    return log[:kept]
+
+
+class Verdicts:
+    """The program rerun. What it was asked once it is not asked again."""
+
+    def __init__(self, rerun):
+        self.rerun, self.printed = os.path.abspath(rerun), {}
+
+    def of(self, log):
+        if log not in self.printed:
+            self.printed[log] = subprocess.run([self.rerun], input=log, stdout=subprocess.PIPE, check=True).stdout.decode()
+        return self.printed[log]
+
+    def check_same(self, log, what):
+        """A log that reruns as `same`."""
+        check(self.of(log).startswith("same\n"), what, "leaves a log that reruns as", self.of(log), log.decode(errors="replace"))
+
+
+class Runner:
+    """Runs the program in a folder of its own, beside which a station sheet may lie. With `logged` it keeps a log."""
+
+    def __init__(self, program, shim, folder, logged=False):
         self.program, self.shim, self.folder = os.path.abspath(program), os.path.abspath(shim), os.path.abspath(folder)
         self.image, self.sheet = os.path.join(self.folder, "cabinet.image"), self.folder + ".sheet"
+        self.log = os.path.join(self.folder, LOG_FOLDER, "cabinet.log") if logged else None
         self.runs = 0
         self.clear()
 
     def clear(self):
         shutil.rmtree(self.folder, ignore_errors=True)
-        os.makedirs(self.folder)
+        os.makedirs(os.path.dirname(self.log or self.image))
 
     def command(self, *options):
-        return [self.program, "--image", self.image, *map(str, options)]
+        return [self.program, "--image", self.image, *(("--log", self.log) if self.log else ()), *map(str, options)]
 
     def environment(self, **settings):
         """The shim is loaded if it has something to do."""
@@ -110,15 +177,19 @@ class Runner:
 
     def stored(self):
         """The bytes of the image's file, None if there is none."""
-        try:
-            with open(self.image, "rb") as file:
-                return file.read()
-        except FileNotFoundError:
-            return None
+        return file_bytes(self.image)
+
+    def logged(self):
+        """The same of the log's file."""
+        return file_bytes(self.log)
 
     def store(self, data):
         with open(self.image, "wb") as file:
             file.write(data)
+
+    def store_log(self, log):
+        with open(self.log, "wb") as file:
+            file.write(log)
 
     def with_sheet(self, data):
         """The options that give the program this sheet; none for None."""
@@ -127,6 +198,14 @@ class Runner:
         with open(self.sheet, "wb") as file:
             file.write(data)
         return "--sheet", self.sheet
+
+
+def file_bytes(path):
+    try:
+        with open(path, "rb") as file:
+            return file.read()
+    except FileNotFoundError:
+        return None
 
 
 def whole_lines(output):

@@ -1,12 +1,12 @@
 /* cut.c: a library to be loaded before the C library (LD_PRELOAD). It counts the calls by which a program changes files or tells something, writes them down,
  * and ends the program at one of them, as a power cut does: by SIGKILL, with nothing said.
  *
- *     CUT_TRACE=FILE   appends a line for each counted call that was done: `truncate FD PATH` or `open FD PATH`, `write FD HEX`, `sync FD`,
- *                      `rename OLD NEW`; and `look FD PATH` for a file opened to be read, which is not counted
+ *     CUT_TRACE=FILE   appends a line for each counted call that was done: `truncate FD PATH`, `append FD PATH` or `open FD PATH`, `write FD HEX`, `sync FD`,
+ *                      `cut FD LENGTH`, `rename OLD NEW`; and `look FD PATH` for a file opened to be read, which is not counted
  *     CUT_AT=K         SIGKILL right before the K-th counted call
  *     CUT_HALF=K       the same, but if that call is a write half of its bytes are written first
  *     CUT_FAIL=K       the K-th counted call fails with EIO, and nothing of it is done
- *     CUT_PIECES=1     every write and sync is interrupted once (EINTR) before it is done, and a read or write moves at most 100 bytes
+ *     CUT_PIECES=1     every write, sync and cut is interrupted once (EINTR) before it is done, and a read or write moves at most 100 bytes
  *     CUT_SLOW=MS      every sync takes so many milliseconds
  *
  * A sync gets no further than here: what a process leaves when it is killed is the same without it, and the test reads from the trace what would be on the
@@ -149,6 +149,20 @@ int fdatasync(int file)
     return synced(file);
 }
 
+int ftruncate(int file, off_t length)
+{
+    int (*function)(int, off_t);
+    *(void **)&function = real("ftruncate");
+    if (interrupts())
+        return -1;
+    if (fails())
+        return -1;
+    if (function(file, length) != 0)
+        return -1;
+    trace("cut %d %ld\n", file, (long)length);
+    return 0;
+}
+
 /* A file that is opened to be read is not counted: nothing changes. A directory can only be opened so. */
 static int opened(int directory, const char *path, int flags, mode_t mode)
 {
@@ -159,7 +173,7 @@ static int opened(int directory, const char *path, int flags, mode_t mode)
         return -1;
     int file = function(directory, path, flags, mode);
     if (file >= 0)
-        trace("%s %d %s\n", !writes ? "look" : flags & O_TRUNC ? "truncate" : "open", file, path);
+        trace("%s %d %s\n", !writes ? "look" : flags & O_TRUNC ? "truncate" : flags & O_APPEND ? "append" : "open", file, path);
     return file;
 }
 

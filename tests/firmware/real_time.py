@@ -1,11 +1,12 @@
 #!/usr/bin/env python3
-"""real_time.py PROGRAM SHIM FOLDER MEMORY: the program by the time of day, on a real disk. If the disk takes so long to sync that a tick of 0.1 s cannot be
-kept, the pacing is tried in MEMORY, a folder that is none of it.
+"""real_time.py PROGRAM SHIM RERUN FOLDER MEMORY: the program by the time of day, on a real disk. If the disk takes so long to sync that a tick of 0.1 s cannot
+be kept, the pacing is tried in MEMORY, a folder that is none of it.
 
 Pacing: a tick passes every 0.1 s, so the clock is within one tick of the time passed, at three moments in three seconds: on the disk as it is; on a disk
 that takes 40 ms for each tick, which would show if a tick began when the work of the last had ended; and with the program stopped for half a second, after
 which the ticks are made up. A request is answered at once, however long the tick. Kills: SIGKILL at random moments, with ticks of 10 ms and real syncs; what
-was told is in the image each time, no ticket is told twice, and the clock does not go back."""
+was told is in the image each time, no ticket is told twice, and the clock does not go back. A log is kept, and after each kill the next start leaves one that
+has the clock and the tickets of the image, and that RERUN finds the same."""
 import os
 import random
 import signal
@@ -13,7 +14,7 @@ import subprocess
 import sys
 import time
 
-from cabinet import Image, Runner, check, layout, least, whole_lines
+from cabinet import Image, Runner, Verdicts, check, layout, least, mended, whole_lines
 
 SEED = 7500
 KILLS = 12
@@ -87,8 +88,8 @@ def offer(rng):
     return f"offer {rng.randrange(20, 200)} " + " ".join(f"{rng.randrange(3)}:{rng.randrange(1, 4)}" for _ in range(3))
 
 
-def kills(runner, rng):
-    told, tickets, restored = [], 0, 0
+def kills(runner, verdicts, rng):
+    told, tickets, restored, log = [], 0, 0, b""
     for number in range(KILLS):
         live = Live(runner, "--stations", 3, "--tick", 10)
         lines = live.first
@@ -108,6 +109,9 @@ def kills(runner, rng):
         check(image.clock >= clock and image.next >= ticket, f"kill {number} leaves clock {image.clock} and next {image.next}; told were {clock} and {ticket}")
         status, output, errors = runner.run("", "--tick", 0)
         check((status, errors) == (0, "") and whole_lines(output) == image.lines("resumed"), f"kill {number}: not resumed:", status, errors)
+        check(runner.logged().startswith(log) and mended(runner.logged(), image) == runner.logged(), f"kill {number}: the log is", runner.logged())
+        log = runner.logged()
+        verdicts.check_same(log, f"kill {number}")
         # Every order that was told as accepted is live, or was told as out, or is out by the one tick that may be untold.
         accepted = [int(line.split(" ")[2]) for line in told if line.startswith("accepted")]
         out = [int(line.split(" ")[3]) for line in told if line.endswith("is out")]
@@ -116,15 +120,16 @@ def kills(runner, rng):
         check(len(missing) <= number + 1 and not set(out) & set(image.tickets()), f"kill {number}: tickets {missing} are gone")
         tickets, restored = len(accepted), restored + image.live
     check(tickets >= KILLS // 2 and restored > 0, "too little:", tickets, "tickets and", restored, "live orders after a kill")
-    print(f"seed {SEED}: {KILLS} kills in real time, clock {image.clock}, {tickets} tickets told as accepted, {restored} live orders found again")
+    print(f"seed {SEED}: {KILLS} kills in real time, clock {image.clock}, {tickets} tickets told as accepted, {restored} live orders found again;",
+          f"a log of {log.count(10)} lines, rerun as same after each kill")
 
 
-def main(program, shim, folder, memory):
+def main(program, shim, rerun, folder, memory):
     # Two syncs a tick, of three programs at a time, one of them slowed by 40 ms.
     takes = sync_takes(folder)
     print(f"a sync takes {takes:.1f} ms here" + ("" if takes < 10 else ": too long for a tick, so the pacing is tried in memory"))
     pacing(folder if takes < 10 else os.path.join(memory, "pacing"), program, shim)
-    kills(Runner(program, shim, os.path.join(folder, "kills")), random.Random(SEED))
+    kills(Runner(program, shim, os.path.join(folder, "kills"), logged=True), Verdicts(rerun), random.Random(SEED))
 
 
 main(*sys.argv[1:])

@@ -1,17 +1,19 @@
 #!/usr/bin/env python3
-"""refusals.py PROGRAM SHIM WORDS LISTS FOLDER: what the program refuses, by number and in words.
+"""refusals.py PROGRAM SHIM WORDS LISTS RERUN FOLDER: what the program refuses, by number and in words.
 
 LISTS holds damaged and sound images that `gen images` of the second simulator wrote, with the simulator's number for each. The program has to resume a sound
 one and tell what it says; another it has to refuse by that number, with exit status 2 and without touching a file. Then every number that an order or a tick
-can get, from images at the ends of the ranges; orders by format beside the same orders by costs; lines that are no requests; and station sheets that are none.
-WORDS is the part of the program that says a number in words, as a shared library: it is asked for the numbers, too, that no line of the counter leads to."""
+can get, from images at the ends of the ranges; orders by format beside the same orders by costs; lines that are no requests; station sheets that are none; and
+logs: what is logged of each order, by document 02, (iv), which RERUN finds the same; logs that are not those of the image, which are refused and not touched;
+and those that have a line too much, or a part of one, which is taken away. WORDS is the part of the program that says a number in words, as a shared library:
+it is asked for the numbers, too, that no line of the counter leads to."""
 import ctypes
 import os
 import re
 import subprocess
 import sys
 
-from cabinet import LONG_SIDES, Image, Runner, check, format_costs, layout, sheet, whole_lines
+from cabinet import LONG_SIDES, Image, Runner, Verdicts, check, format_costs, layout, mended, order_line, sheet, whole_lines
 
 CARRIAGE_RETURN = "not understood: the line ends in a carriage return and a line feed, and has to end in a line feed alone"
 REFUSED = re.compile(r"cabinet: the image \S+ is refused by number (\d+): .+ The file is left as it is\. .+\n")
@@ -50,8 +52,8 @@ def own(sound):
 
 def seen(runner):
     """Every file of the folder: its bytes, its number, and when it was changed."""
-    return {name: (open(path, "rb").read(), os.stat(path).st_ino, os.stat(path).st_mtime_ns)
-            for name, path in ((name, os.path.join(runner.folder, name)) for name in os.listdir(runner.folder))}
+    paths = [os.path.join(folder, name) for folder, _, names in os.walk(runner.folder) for name in names]
+    return {path: (open(path, "rb").read(), os.stat(path).st_ino, os.stat(path).st_mtime_ns) for path in paths}
 
 
 def images(runner, folder):
@@ -179,7 +181,7 @@ def lines_and_options(runner):
     status, output, errors = runner.run("status\n", "--tick", 0, "--stations", 3)
     check(status == 2 and output == b"" and "is of 2 stations, and not of 3" in errors and seen(runner) == before, "other stations:", status, output, errors)
     for options in (("--tick",), ("--tick", "x"), ("--tick", "-1"), ("--tick", "60001"), ("--stations", ""), ("--stations", "4294967296"), ("--clock", "1"),
-                    ("1",), ("--sheet",), ("--sheet", "")):
+                    ("1",), ("--sheet",), ("--sheet", ""), ("--log",), ("--log", "")):
         status, output, errors = runner.run("status\n", *options)
         check(status == 1 and output == b"" and re.fullmatch("cabinet: .+\n", errors) and seen(runner) == before, options, status, output, errors)
 
@@ -251,7 +253,115 @@ def sheets(runner):
     print(f"{3 * len(lengths) + 6} station sheets that are none")
 
 
-def main(program, shim, words, lists, folder):
+def logged_orders(runner, verdicts):
+    """Orders that get each number that a log of this length can have, by costs and by format, with sheets that make a cost too large for a line, or none: the
+    log has the line of each that a line can hold, and reruns as `same`."""
+    most, counted = layout.MAX_DUE_IN, 0
+    good, slow = sheet([4, 30, 6, 9], [20, 50, 100, 0]), sheet([65535 - 210, 5000, 0], [1, 1, 1000])
+    costs = ["20 0:2 0:3 0:1", "9 5:1 5:2 5:1", "100 5:9 5:9 5:9", "9 0:1", "9", "9 0:0 0:1 0:1", f"9 0:{layout.MAX_COST + 1} 0:1 0:1", "9 255:65535 0:1 0:1",
+             "9 0:1 0:1 0:1 0:0", "9 0:1 0:1 0:1 1:0", "9 0:1 0:1 0:1 0:1", f"{most + 1} 0:1 0:1 0:1", f"{2**32 - 1} 7:1 8:1 9:1", "0 0:1 0:1 0:1"]
+    formats = [f"{due_in} {rank}:{name}" for name in LONG_SIDES for due_in, rank in ((600, 5), (0, 255), (30, 0), (most + 1, 1))]
+    full = [f"{most} 0:1 0:1 0:1"] * (layout.MAX_LIVE + 2)
+    numbers = set()
+    for orders, given in ((costs, None), (formats, good), (formats, slow), (formats, sheet([1, 1], [500, 500])), (formats[:4], None), (full, None)):
+        runner.clear()
+        text = "".join(f"offer {order}\nwait {k % 3}\n" if orders is not full else f"offer {order}\n" for k, order in enumerate(orders))
+        status, output, errors = runner.run(text, "--stations", 3, "--tick", 0, *runner.with_sheet(given))
+        answers = [line for line in whole_lines(output) if line.startswith(("accepted", "declined"))]
+        check((status, errors, len(answers)) == (0, "", len(orders)), status, errors, answers)
+        wanted = []
+        for order, answer in zip(orders, answers):
+            number, ticket = (int((re.match(rf"{name} (\d+)", answer) or [0, 0])[1]) for name in ("declined", "accepted ticket"))
+            wanted.append(order_line(order.split(" "), number, ticket, 3, given))
+            numbers.add(number)
+        lines = runner.logged().decode().splitlines()
+        check([line for line in lines if line.startswith("O")] == [line for line in wanted if line], "the log has", lines, "and not", wanted)
+        counted += len([line for line in wanted if line])
+        verdicts.check_same(runner.logged(), "orders")
+    check(numbers == {0, 5, 6, 7, 10, 11, 12, 20}, numbers)
+    print(f"{counted} orders logged, each as it was answered; none where no line can hold it")
+
+
+def logs(runner, verdicts):
+    """Beside an image of clock 3, with two orders accepted and one declined, and beside one that was just opened."""
+    requests = "offer 20 0:2 0:3\noffer 6 5:1 5:2\noffer 7 5:1 5:2\nwait 3\n"
+    runner.clear()
+    runner.run(requests, "--stations", 2, "--tick", 0)
+    image, log = runner.stored(), runner.logged()
+    lines = log.splitlines(keepends=True)
+    tick, order = b"T 0\n", b"O 60000 0 0 1 1 0 3\n"
+    refused = {
+        "none": None, "no bytes": b"", "of other stations": b"N 3\n" + b"".join(lines[1:]), "without its first line": b"".join(lines[1:]),
+        "with two first lines": lines[0] + log, "without a tick": b"".join(lines[:-1]), "without an order": lines[0] + b"".join(lines[2:]),
+        "of other tickets": log.replace(b" 0 2\n", b" 0 3\n"), "with two ticks more": log + tick + tick, "with two orders more": log + order + order,
+        "with an order and a tick more": log + order + tick, "with a line and a part of one": log + tick + b"T", "with a part of a long line": log + b"T " * 99,
+        "with a malformed line": lines[0] + b"T x\n" + b"".join(lines[1:]), "with an empty line": lines[0] + b"\n" + b"".join(lines[1:]),
+        "with CRLF": log.replace(b"\n", b"\r\n"), "with a field too much": log.replace(b" 0 1\n", b" 0 1 1\n"),
+        "with a field too little": log.replace(b"O 20 ", b"O "), "with a leading space": b" " + log,
+        "with a number too large": log.replace(b"O 20 ", b"O 4294967296 "), "cut in the middle": log[:len(log) // 2],
+        "of another cabinet": b"N 2\n" + tick * 3, "an image": image, "with a tick too early": lines[0] + tick * 4 + b"".join(lines[1:4]),
+    }
+    for name, other in refused.items():
+        check(mended(other or b"", Image(image)) is None, "a log", name, "fits")
+        for options in ((), ("--stations", 2)):
+            runner.clear()
+            runner.store(image)
+            if other is not None:
+                runner.store_log(other)
+            before = seen(runner)
+            status, output, errors = runner.run("status\n", "--tick", 0, *options)
+            told = f"cabinet: the log {runner.log} is not that of the image {runner.image}, from its opening to now. Both files are left as they are. "
+            check((status, output) == (7, b"") and errors.startswith(told) and seen(runner) == before, "a log", name, "ends with", status, output, errors)
+    # Without an image a log that has begun is that of a cabinet whose image got lost.
+    for name, other in {"whole": log, "with a tick": b"N 2\nT 0\n", "of other bytes": b"notes\n"}.items():
+        runner.clear()
+        runner.store_log(other)
+        before = seen(runner)
+        status, output, errors = runner.run("status\n", "--stations", 2, "--tick", 0)
+        check((status, output) == (7, b"") and "is not that of the image" in errors and seen(runner) == before, "a log", name, "and no image:", status, errors)
+    # An image that is refused, or a number of stations, or a sheet, leaves the log alone.
+    for data, options in ((image[:-1], ()), (image, ("--stations", 3)), (image, ("--sheet", runner.folder))):
+        runner.clear()
+        runner.store(data)
+        runner.store_log(log + tick)
+        before = seen(runner)
+        status, output, errors = runner.run("status\n", "--tick", 0, *options)
+        check(status in (2, 6) and seen(runner) == before, options, "touches the log:", status, errors)
+
+    # What is taken away: the line of one call that the image does not know, or a part of it.
+    more = [tick, order, b"T", b"T 0", order[:9], order[:-1], bytes(4), bytes(50), bytes(20) + b" 0 3\n", b"O 1" + bytes(9) + b"\n", b"\n", b"x" * 100, b""]
+    for rest in more:
+        for settings in ({}, {"pieces": 1}):
+            runner.clear()
+            runner.store(image)
+            runner.store_log(log + rest)
+            status, output, errors = runner.run("status\n", "--tick", 0, **settings)
+            check((status, errors, runner.logged()) == (0, "", log) and mended(log + rest, Image(image)) == log, "after", rest, status, errors, runner.logged())
+    runner.run("wait 4\n", "--tick", 0)
+    check(runner.logged() == log + b"T 0\nT 1\nT 0\nT 2\n", "the log goes on with", runner.logged()[len(log):])
+    verdicts.check_same(runner.logged(), "a log that goes on")
+    # An opening that was cut off is begun again, and so is the log of an image that was just opened and has none.
+    runner.clear()
+    runner.run("", "--stations", 2, "--tick", 0)
+    fresh = runner.stored()
+    for data, left in [(None, part) for part in (None, b"", b"N", b"N 2", b"N 2\n", b"N 3\n", bytes(4))] + [(fresh, None), (fresh, b""), (fresh, b"N")]:
+        runner.clear()
+        if data is not None:
+            runner.store(data)
+        if left is not None:
+            runner.store_log(left)
+        status, output, errors = runner.run("wait 1\n", "--stations", 2, "--tick", 0)
+        check((status, errors, runner.logged()) == (0, "", b"N 2\nT 0\n"), "an opening that left", left, "ends with", status, errors, runner.logged())
+    # A log that cannot be written.
+    for path in (runner.folder + "/nowhere/cabinet.log", runner.folder, runner.folder + "/"):
+        runner.clear()
+        status, output, errors = runner.run("status\n", "--stations", 2, "--tick", 0, "--log", path)
+        told = f"cabinet: cannot write the log {path}: "
+        check((status, output) == (3, b"") and errors.startswith(told) and not os.path.exists(runner.image), path, "as a log:", status, output, errors)
+    print(f"{2 * len(refused) + 6} logs that are not those of the image, and {len(more) + 10} ends of a log that a cut leaves")
+
+
+def main(program, shim, words, lists, rerun, folder):
     runner = Runner(program, shim, folder)
     words = ctypes.CDLL(os.path.abspath(words))
     words.in_words.restype, words.in_words.argtypes = ctypes.c_char_p, [ctypes.c_uint32]
@@ -260,7 +370,11 @@ def main(program, shim, words, lists, folder):
     formats(runner)
     lines_and_options(runner)
     sheets(runner)
-    print(f"the program was started {runner.runs} times")
+    keeping = Runner(program, shim, folder, logged=True)
+    verdicts = Verdicts(rerun)
+    logged_orders(keeping, verdicts)
+    logs(keeping, verdicts)
+    print(f"the program was started {runner.runs + keeping.runs} times")
 
 
 main(*sys.argv[1:])
