@@ -67,6 +67,17 @@ program() {
     made_by_rt "target/bin/$1" check "$1"
 }
 
+# put_between NAME FILE PAGE: FILE stands in PAGE between its two marker lines for NAME.
+put_between() {
+    local made
+    made=$(awk -v begin="<!-- $1: begin -->" -v end="<!-- $1: end -->" -v file="$2" '
+        $0 == begin { print; print ""; while ((getline line < file) > 0) print line; print ""; inside = 1; seen++; next }
+        $0 == end { inside = 0; seen++ }
+        !inside
+        END { exit seen != 2 }' "$3") || die "$3 lacks its two marker lines for $1"
+    printf '%s\n' "$made" > "$3"
+}
+
 # The second simulator writes beside its sources when it is built, so a copy of it is built. `simulator` is the copy and `simulate` its program.
 simulator=target/second-simulator
 simulate=$simulator/target/harness/release/second-simulator

@@ -61,12 +61,51 @@ def expect(block, *wanted):
         sys.exit(f"README.md has the commands {commands(block)} in the place of {list(wanted)}")
 
 
+def rerun_logs(log, verdict, van, verdicts, single, simulator):
+    """README's log, and what it says of a folder and of single logs. How many logs were rerun; the second simulator prints the same for each."""
+    def put(name, text):
+        """A log, by the name that it has in the folder of links. What the simulator prints for it."""
+        os.makedirs(os.path.dirname(f"{TREE}/{name}") or ".", exist_ok=True)
+        Path(f"{TREE}/{name}").write_bytes(text)
+        return subprocess.run([*simulator, f"{TREE}/{name}"], stdout=subprocess.PIPE, check=True, text=True).stdout
+
+    call = "target/bin/rerun < LOG"
+    if put("LOG", log.encode()) != verdict:
+        sys.exit("README.md shows another verdict than the second simulator has")
+    same(call, verdict, run(call, folder=TREE))
+    # Three logs, as the page has them: one with another ticket out in line 9, and one with a leading zero in line 4.
+    lines = log.encode().splitlines(keepends=True)
+    for name, text in (("hut", lines), ("landing", lines[:8] + [b"T 2\n"] + lines[9:]), ("mill", lines[:3] + [lines[3].replace(b" ", b" 0", 1)] + lines[4:])):
+        put(f"VAN/{name}.log", b"".join(text))
+    same("the van's logs", verdicts, run(van, folder=TREE))
+    # A van's worth: a hundred logs, in folders, one with a space in its name.
+    wanted = verdicts.splitlines()
+    for k, path in enumerate(sorted(Path("tests/rerun/logs").glob("*.in"))[::4][:97]):
+        name = f"VAN/lodge {k % 5}/{path.stem}.log" if k % 5 else f"VAN/{path.stem}.log"
+        wanted.append(f"{name}: {put(name, path.read_bytes()).splitlines()[0]}")
+    got = run(van, folder=TREE).splitlines()
+    if sorted(got) != sorted(wanted) or len(got) != 100:
+        sys.exit(f"of {len(wanted)} logs the command says {len(got)} lines, others than the second simulator has: {sorted(set(got) ^ set(wanted))[:4]}")
+    progress, copied, script = commands(single)
+    expect(single, "pv LOG | target/bin/rerun", "head -n -1 LOG | target/bin/rerun", script)
+    same(progress, verdict, run(progress, folder=TREE))
+    if run(script, folder=TREE) != "":
+        sys.exit(f"'{script}' complains of a log that is the same")
+    # Copied while it was written: its last line is not ended.
+    for text, short in ((b"".join(lines)[:-2], b"".join(lines[:-1])), (b"".join(lines) + b"T", b"".join(lines))):
+        whole = put("LOG", text)
+        if not run(call, folder=TREE) == whole == f"refused 21 {text.count(10) + 1}\n" or run(script, folder=TREE) == "":
+            sys.exit(f"a log without its last line feed gets {whole}, and '{script}' says {run(script, folder=TREE)}")
+        same(copied, put("SHORT", short), run(copied, folder=TREE))
+    return len(got) + 3
+
+
 def main():
     page = open(sys.argv[1]).read()
     given = blocks(page)
-    if len(given) != 12:
-        sys.exit(f"README.md has {len(given)} blocks of indented lines, and this test knows 12: it has to know each")
-    two, cabinet, requests, told, plan, table, figures, inspect, said, programs, tried, bench = given
+    if len(given) != 18:
+        sys.exit(f"README.md has {len(given)} blocks of indented lines, and this test knows 18: it has to know each")
+    two, cabinet, requests, told, plan, table, figures, rerun, log, verdict, van, verdicts, single, inspect, said, programs, tried, bench = given
 
     os.makedirs(f"{TREE}/target")
     for name in ["crates", "crates.txt", "include", "firmware", "target/rlib", "target/stamp", "target/obj", "target/bin"]:
@@ -105,6 +144,10 @@ def main():
     print(f"{rows} mistakes, as README.md has them: {runs} tables printed by plan and by the second simulator")
     seen = mistakes.faults(page, table, figures, trial)
 
+    expect(rerun, "rt check rerun", "target/bin/rerun < LOG")
+    run("rt check rerun", folder=TREE)
+    logs = rerun_logs(log, verdict, van, verdicts, single, at_level(os.path.abspath(sys.argv[2]), "rerun"))
+
     expect(inspect, "rt check inspect", "target/bin/inspect < IMAGE")
     run("rt check inspect", folder=TREE)
     os.symlink("crates/inspect/stdin", f"{TREE}/IMAGE")
@@ -122,7 +165,7 @@ def main():
     expect(bench, "bench/run")
     run("bench/run --compare")
     print(f"compared: {len(given)} blocks of README.md, commands, inputs and outputs, with runs of the commands; {rows} mistakes of planners in {runs} tables",
-          f"with plan, the second simulator and the cures; {seen} faults, each seen")
+          f"with plan, the second simulator and the cures; {seen} faults, each seen; {logs} logs by the van's commands with the second simulator")
 
 
 main()
