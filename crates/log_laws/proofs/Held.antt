@@ -1,20 +1,19 @@
 -- What becomes of each call of a list in its log: it has a line, which records a call that gives the same on the same image; or it has none, and leaves the image
 -- as it was. An order that is accepted always has a line: its values are in range, and nothing stands beyond N.
-use mathlib.Core.Path.{_≡_, refl, sym, ap, subst, _∙_}
+use mathlib.Core.Path.{_≡_, refl, sym, ap, _∙_}
 use mathlib.Core.Logic.{inl, inr, _≢_}
-use mathlib.Core.Bool.{Bool, true, false, cond, _&&_, true≢false}
+use mathlib.Core.Bool.{Bool, true, false, _&&_, true≢false}
 use mathlib.Core.List.{List, [], _∷_, _++_}
-use Prim.Native.Nat.{ℕ, zero, suc, _+_, _-_, _*_, _≤_, _<_}
+use Prim.Native.Nat.{ℕ, zero, suc, _+_, _-_, _≤_}
 use native.Mathlib.Omega.{arith}
 use lib.ListN.{length, getD, take, drop, replicate, length-drop, take-append-drop}
 use lib.Seq.{length-take-le}
 use lib.Dec.{leb, eqb}
 use borrow.Author.Tests.{eq-eqb, eqb-true, leb-true, leb-false, le-leb}
 use Rattle.model.specs.declared.Block.{Block}
-use Rattle.model.specs.declared.Service.{Service}
 use Rattle.model.specs.Limits.{maxStations}
 use Rattle.model.specs.Lists.{at, isZero, all}
-use Rattle.model.specs.Bytes.{word, eightBytes, eightHalves}
+use Rattle.model.specs.Bytes.{word}
 use Rattle.model.specs.State.{State}
 use Rattle.model.specs.Tick.{starts}
 use Rattle.model.specs.Layout.{blockSize, blockRanksAt, replySize, replyTicketAt}
@@ -29,7 +28,7 @@ use Rattle.model.specs.StateOf.{stateOf}
 use Rattle.model.specs.Runs.{Lent, Run, outcome, Allowed, duringCall}
 use Rattle.lists.proofs.Questions.{answer, gives-other, passed}
 use Rattle.schedule.proofs.Laws.{and-both, test}
-use Rattle.image_laws.specs.InRange.{halfLimit, wordLimit, Row}
+use Rattle.image_laws.specs.InRange.{halfLimit, Row}
 use Rattle.image_laws.proofs.Tests.{Says, leb-says, both-true, entries-say}
 use Rattle.image_laws.proofs.Questions.{replied}
 use Rattle.image_laws.proofs.Zeros.{zeros-are}
@@ -48,11 +47,11 @@ use Rattle.call_laws.proofs.advances.Kept.{advance-decline-leaves}
 use Rattle.runs.proofs.Out.{same-services}
 use Rattle.runs.proofs.Invariant.{Invariant, says}
 use Rattle.log_model.specs.Limits.{most8, most16, most32}
-use Rattle.log_model.specs.Lines.{Line, offered, advanced, toEight, callOf, numberOf, ticketOf}
+use Rattle.log_model.specs.Lines.{Line, advanced, toEight, callOf, numberOf, ticketOf}
 use Rattle.log_model.specs.Rerun.{lentReply}
 use Rattle.log_model.specs.Written.{canHold, offerLine, linesFor, duringIn}
 use Rattle.log_laws.specs.Meaning.{OfBytes}
-use Rattle.log_laws.specs.Fits.{NoneAbove, OfferFits, LineFits}
+use Rattle.log_laws.specs.Fits.{NoneAbove, LineFits}
 use Rattle.log_laws.proofs.Replies.{offer-number-fits, offer-reply, offer-ticket-fits, advance-reply, advance-ticket-fits}
 
 -- ---- the rows of a block that a line can hold

@@ -3,7 +3,7 @@ use mathlib.Core.Path.{_≡_, refl, sym, ap, _∙_}
 use mathlib.Core.Logic.{_≢_, inl, inr}
 use mathlib.Core.Bool.{Bool, true, false, true≢false}
 use mathlib.Core.List.{List, [], _∷_, _++_}
-use Prim.Native.Nat.{ℕ, zero, suc, _+_, _≤_, _<_}
+use Prim.Native.Nat.{ℕ, zero, suc, _+_, _<_}
 use native.Mathlib.Omega.{arith}
 use lib.ListN.{length, getD}
 use lib.Dec.{eqb}
@@ -11,13 +11,13 @@ use borrow.Author.Tests.{eq-eqb, ne-eqb, eqb-true}
 use Rattle.model.specs.Lists.{at}
 use Rattle.model.specs.Bytes.{word}
 use Rattle.model.specs.State.{fresh}
-use Rattle.model.specs.Layout.{replySize, replyTicketAt}
+use Rattle.model.specs.Layout.{replyTicketAt}
 use Rattle.model.specs.Image.{encode}
 use Rattle.model.specs.Calls.{Result, perform}
 use Rattle.schedule.proofs.Laws.{and-both, test}
 use Rattle.log_model.specs.Lines.{Line, callOf, numberOf, ticketOf}
 use Rattle.log_model.specs.Rerun.{lentReply, agrees, firstDifference, differsAt}
-use Rattle.log_model.specs.Output.{firstFalse, refusedAt, stationsIn, callsIn, refusedLine, differsLine, sameLines, resultOf, rerunOutput}
+use Rattle.log_model.specs.Output.{firstFalse, refusedAt, stationsIn, callsIn, refusedLine, resultOf, rerunOutput}
 use Rattle.log_laws.specs.Meaning.{Gives, AllGive, forms, imageAfter, PrintsAsAsked}
 use Rattle.log_laws.proofs.Replies.{reply-makes-no-difference}
 

@@ -1,30 +1,27 @@
 -- A log that is written from a list of calls reruns as `same`: the rerun goes through the images that the list went through, call by call, and so through the ticks
 -- of the history. Calls without a line leave the image as it was.
 use mathlib.Core.Path.{_≡_, refl, sym, ap, _∙_}
-use mathlib.Core.Bool.{Bool, true, cond, _&&_}
-use mathlib.Core.List.{List, [], _∷_, _++_, map}
+use mathlib.Core.List.{List, [], _∷_, map}
 use Prim.Native.Nat.{ℕ, zero, suc, _+_, _≤_}
 use native.Mathlib.Omega.{arith}
 use lib.ListN.{length, length-append}
-use lib.Dec.{eqb}
 use borrow.Author.Tests.{eq-eqb}
-use Rattle.model.specs.declared.Service.{Service}
 use Rattle.model.specs.Limits.{maxStations}
 use Rattle.model.specs.Bytes.{word}
 use Rattle.model.specs.State.{fresh}
-use Rattle.model.specs.Layout.{imageSize, replySize, replyTicketAt}
+use Rattle.model.specs.Layout.{replyTicketAt}
 use Rattle.model.specs.Image.{encode}
-use Rattle.model.specs.Calls.{Result, result, openCall, Call, opening, quoting, offering, quotingFormat, offeringFormat, advancing, perform}
+use Rattle.model.specs.Calls.{Result, result, openCall, Call, opening, quoting, offering, quotingFormat, offeringFormat, advancing}
 use Rattle.model.specs.History.{History, begun, feed, acceptIn, advanceIn, startsIn, tickIn, leaveIn}
-use Rattle.model.specs.Runs.{Lent, Run, started, outcome, afterCall, afterAll, AllAllowed, duringCall, duringCalls}
+use Rattle.model.specs.Runs.{Lent, Run, started, outcome, afterCall, afterAll, AllAllowed, duringCalls}
 use Rattle.call_laws.proofs.opens.Exact as opens
 use Rattle.runs.proofs.Invariant.{Invariant, open-done, invariant-started, invariant-call}
-use Rattle.log_model.specs.Lines.{Line, callOf, numberOf, ticketOf}
-use Rattle.log_model.specs.Rerun.{lentReply, lentOf, agrees, firstDifference, differsAt, ticksOf}
-use Rattle.log_model.specs.Output.{refusedAt, stationsIn, callsIn, sameLines, busyOf, resultOf, rerunOutput}
-use Rattle.log_model.specs.Written.{writtenLog, linesFor, linesOfCalls, duringIn, bookTicks}
+use Rattle.log_model.specs.Lines.{numberOf, ticketOf}
+use Rattle.log_model.specs.Rerun.{lentOf, agrees, firstDifference, differsAt, ticksOf}
+use Rattle.log_model.specs.Output.{resultOf, rerunOutput}
+use Rattle.log_model.specs.Written.{linesOfCalls, duringIn, bookTicks}
 use Rattle.log_laws.specs.Meaning.{AllOfBytes, RerunsAsSame, WrittenReruns}
-use Rattle.log_laws.specs.Fits.{LineFits, AllFit}
+use Rattle.log_laws.specs.Fits.{AllFit}
 use Rattle.log_laws.proofs.Held.{Logged, unlogged, logged, each-logged}
 use Rattle.log_laws.proofs.RoundTrip.{read-back}
 

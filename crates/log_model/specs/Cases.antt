@@ -4,7 +4,7 @@ use mathlib.Core.List.{List, [], _∷_, _++_}
 use Prim.Native.Nat.{ℕ}
 use lib.ListN.{replicate}
 use lib.Dec.{eqb}
-use Rattle.model.specs.Lists.{isZero, concat, same}
+use Rattle.model.specs.Lists.{concat, same}
 use Rattle.model.specs.Admission.{blockBytes}
 use Rattle.model.specs.Table.{readRow}
 use Rattle.text.specs.Ascii.{ascii}

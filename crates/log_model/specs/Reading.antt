@@ -1,13 +1,13 @@
 -- A log of any length, read byte by byte: what has been fed so far determines the state, which does not grow. What is printed of the state at the end is
 -- what `Output` says of the whole log (`ReadsAsWhole` of the crate `log_laws`).
-use mathlib.Core.Bool.{Bool, true, false, cond, not, _&&_, _||_}
-use mathlib.Core.List.{List, [], _∷_, _++_}
+use mathlib.Core.Bool.{Bool, cond, not, _||_}
+use mathlib.Core.List.{List, [], _∷_}
 use Prim.Native.Nat.{ℕ, zero, suc, _+_}
 use lib.ListN.{set, take, replicate}
 use lib.Dec.{ltb, eqb}
 use Rattle.model.specs.declared.Order.{Order}
 use Rattle.model.specs.Limits.{maxStations}
-use Rattle.model.specs.Lists.{isZero, concat, any, numbered, upward}
+use Rattle.model.specs.Lists.{isZero, any, upward}
 use Rattle.model.specs.Image.{decode}
 use Rattle.model.specs.Calls.{openCall, perform}
 use Rattle.text.specs.Parts.{lineFeed}

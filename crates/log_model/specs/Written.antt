@@ -1,7 +1,7 @@
 -- A log as a cabinet's firmware writes it: document 02, (iv), from what is recorded to bytes, and from a list of calls to what is recorded.
 use mathlib.Core.Bool.{Bool, cond, _&&_}
 use mathlib.Core.List.{List, [], _∷_, _++_, map}
-use Prim.Native.Nat.{ℕ, zero, suc, _<_}
+use Prim.Native.Nat.{ℕ, zero, suc}
 use lib.ListN.{length, take}
 use lib.Dec.{leb, eqb}
 use Rattle.model.specs.declared.Block.{Block}

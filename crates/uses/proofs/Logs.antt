@@ -1,7 +1,7 @@
 -- Uses of what is said of logs: what is printed, by the lines; a log written from a list of calls; what `same` says of a log; the last column; the reading in chunks.
 use mathlib.Core.Path.{_≡_, refl, _∙_}
-use mathlib.Core.Logic.{_⊎_, inl, inr}
-use mathlib.Core.Bool.{Bool, true, false}
+use mathlib.Core.Logic.{inl, inr}
+use mathlib.Core.Bool.{true, false}
 use mathlib.Core.List.{List, [], _∷_, _++_, foldl}
 use Prim.Native.Nat.{ℕ, zero, suc, _≤_, _<_}
 use native.Mathlib.Omega.{arith}
@@ -18,22 +18,22 @@ use Rattle.model.specs.Runs.{started, outcome, afterCall, afterAll, AllAllowed}
 use Rattle.model.specs.Table.{readRow}
 use Rattle.model.specs.Cases.{order, X, Y}
 use Rattle.model.specs.FormatCases.{sheetOf, byFormat, twoStations}
-use Rattle.image_laws.specs.InRange.{byteLimit, Below}
+use Rattle.image_laws.specs.InRange.{byteLimit}
 use Rattle.text.specs.Ascii.{ascii}
 use Rattle.text.specs.Parts.{lines}
 use Rattle.log_model.specs.Limits.{most8, lastLine}
-use Rattle.log_model.specs.Lines.{Line, offered, advanced, callOf, numberOf, ticketOf}
+use Rattle.log_model.specs.Lines.{Line, advanced, callOf, numberOf, ticketOf}
 use Rattle.log_model.specs.Rerun.{lentReply, agrees}
 use Rattle.log_model.specs.Output.{stationsIn, callsIn, rerunOutput}
-use Rattle.log_model.specs.Reading.{Fed, fedAll, begun, printed}
+use Rattle.log_model.specs.Reading.{fedAll, begun}
 use Rattle.log_model.specs.Written.{lineBytes, callBytes, ended, writtenLog, canHold, offerLine, linesOfCalls, bookTicks}
-use Rattle.log_laws.specs.Meaning.{AllOfBytes, Gives, AllGive, forms, RerunsAsSame, Recorded, readLog}
+use Rattle.log_laws.specs.Meaning.{AllOfBytes, Gives, forms, RerunsAsSame, Recorded, readLog}
 use Rattle.log_model.specs.Cases.{isRerun, isShare}
 use Rattle.log_laws.proofs.Replies.{reply-makes-no-difference}
 use Rattle.claims.proofs.Claims.{claims}
 use Rattle.uses.specs.DefiniteLists.{someImage, someReply, opened, mixedCalls, loggedCalls, formatCalls, allStations, eightFormatCalls, endImage}
 use Rattle.uses.proofs.DefiniteLists.{mixed-allowed, formats-allowed, eight-formats-allowed}
-use Rattle.uses.proofs.Words.{Figure, Bytes, No, all-bytes}
+use Rattle.uses.proofs.Words.{Figure, Bytes, all-bytes}
 
 -- ---- what is printed, by the lines: at 8 stations a line of another form after one that disagrees; the same without it; the same without either
 abbrev otherLog : List ℕ
