@@ -154,7 +154,7 @@ def fields(lines):
             wrong["largest"] = str(MOST[bits])
         for how, wrong_value in wrong.items():
             keep(f"{name}-{how}", changed(lines, line, word, wrong_value))
-    for count in ("0", "9", "10", "256", "4294967295"):
+    for count in ("0", "9", "10", "256", "4294967295", "4294967297"):
         keep(f"stations-{count}", changed(lines, 1, 1, count))
         keep(f"stations-{count}-alone", [f"N {count}"])
     # More stations than there are costs, and fewer.
