@@ -140,16 +140,17 @@ static int begins(struct word word, char letter)
 
 static int first_line(struct word *words, int count)
 {
-    uint64_t values[1], most[] = {MAX_STATIONS};
-    if (fault(27)) /* a station count of 9 is let through */
-        most[0] = MAX_STATIONS + 1;
-    if (fault(29))
-        most[0] = UINT32_MAX;
+    const uint64_t most[] = {UINT32_MAX};
+    uint64_t values[1], stations = MAX_STATIONS;
     if (!begins(words[0], 'N') || !fields(words, count, 1, most, values))
         return 0;
+    if (fault(27)) /* a station count of 9 is let through */
+        stations++;
     if (fault(29)) /* a station count is cut to 8 bits */
         values[0] = (uint8_t)values[0];
-    if ((values[0] == 0 && !fault(28)) || values[0] > most[0]) /* a station count of 0 is let through */
+    if (values[0] > stations)
+        return 0;
+    if (values[0] == 0 && !fault(28)) /* a station count of 0 is let through */
         return 0;
     r.stations = (uint32_t)values[0];
     memset(r.image, 0, sizeof r.image);
