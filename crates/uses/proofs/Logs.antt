@@ -1,6 +1,6 @@
 -- Uses of what is said of logs: what is printed, by the lines; a log written from a list of calls; what `same` says of a log; the last column; the reading in chunks.
 use mathlib.Core.Path.{_≡_, refl, _∙_}
-use mathlib.Core.Logic.{inl, inr}
+use mathlib.Core.Logic.{_⊎_, inl, inr}
 use mathlib.Core.Bool.{true, false}
 use mathlib.Core.List.{List, [], _∷_, _++_, foldl}
 use Prim.Native.Nat.{ℕ, zero, suc, _≤_, _<_}
@@ -224,3 +224,7 @@ read-8 = read-as eightLog eightLines refl (omega arith)
 read-long : readLog someImage (ascii "N 1\nT 7\nT 1" ++ replicate 300 48 ++ ascii "\n") ≡ ascii "refused 21 3\n"
 unfolding isRerun
 read-long = read-as (ascii "N 1\nT 7\nT 1" ++ replicate 300 48 ++ ascii "\n") (ascii "refused 21 3\n") refl (omega arith)
+
+-- Of any log, also one with more lines than are counted: what the definition says, or nothing.
+never-wrong : (log : List ℕ) → (readLog someImage log ≡ rerunOutput log) ⊎ (readLog someImage log ≡ [])
+never-wrong log = elim (claims .reads-as-whole someImage refl log) [ inl same ↦ inl same | inr none ↦ inr (none .0) ]
