@@ -38,7 +38,7 @@ InRange c = (1 ≤ c) × (c ≤ maxCost)
 
 -- the history after two acceptances, after a tick, after a tick with early ends, and at the end
 h₀ : History
-h₀ = acceptIn (block 9 1 2) (acceptIn (block 20 2 3) (begun 2))
+h₀ = acceptIn (block 20 1 2) (acceptIn (block 9 2 3) (begun 2))
 
 h₁ : History
 h₁ = passIn (map oneLess (startsIn h₀ .services)) (startsIn h₀)
@@ -48,17 +48,17 @@ h₂ = passIn (map ended (startsIn h₁ .services)) (startsIn h₁)
 
 pub events : List Event
 events =
-    accepting (block 20 2 3) ∷ accepting (block 9 1 2)
+    accepting (block 9 2 3) ∷ accepting (block 20 1 2)
     ∷ starting ∷ passing (map oneLess (startsIn h₀ .services))
     ∷ starting ∷ passing (map ended (startsIn h₁ .services))
     ∷ accepting (block 100 1 1) ∷ starting
     ∷ []
 
-first-may : MayAccept (begun 2) (block 20 2 3)
+first-may : MayAccept (begun 2) (block 9 2 3)
 unfolding readRow passIn ended block h₀ h₁ h₂
 first-may = record { costs = of-two InRange 2 3 (omega arith) (omega arith); arrival-on-time = refl; live-on-time = refl }
 
-second-may : MayAccept (acceptIn (block 20 2 3) (begun 2)) (block 9 1 2)
+second-may : MayAccept (acceptIn (block 9 2 3) (begun 2)) (block 20 1 2)
 unfolding readRow passIn ended block h₀ h₁ h₂
 second-may = record { costs = of-two InRange 1 2 (omega arith) (omega arith); arrival-on-time = refl; live-on-time = refl }
 
@@ -68,7 +68,7 @@ third-may = record { costs = of-two InRange 1 1 (omega arith) (omega arith); arr
 
 kept₀ : Kept h₀
 unfolding h₀
-kept₀ = kept-accept (block 9 1 2) (acceptIn (block 20 2 3) (begun 2)) (kept-accept (block 20 2 3) (begun 2) (kept-begun 2 (omega arith) (omega arith)) first-may) second-may
+kept₀ = kept-accept (block 20 1 2) (acceptIn (block 9 2 3) (begun 2)) (kept-accept (block 9 2 3) (begun 2) (kept-begun 2 (omega arith) (omega arith)) first-may) second-may
 
 pass₀ : MayPass (startsIn h₀) (map oneLess (startsIn h₀ .services))
 pass₀ = may-pass h₀ kept₀ (map oneLess (startsIn h₀ .services)) (ticked-plain (startsIn h₀ .services))

@@ -1,4 +1,5 @@
 pub mod FirstCase
 pub mod DefaultCases
+pub mod TieCases
 pub mod FormatCases
 pub mod Cases

@@ -87,7 +87,7 @@ acceptIn b h =
 
 -- "Advance returning 0: the course of one tick, on the book's own stations and clock."
 unfoldable pub entryView : Entry → View
-entryView e = record { ticket = e .ticket; station = e .station; ranks = e .block .ranks; costs = e .block .costs }
+entryView e = record { ticket = e .ticket; due = entryDue e; station = e .station; ranks = e .block .ranks; costs = e .block .costs }
 
 unfoldable pub startsIn : History → History
 startsIn h = record { n = h .n; clock = h .clock; services = startEach (map entryView (liveOrders h)) (h .services); orders = h .orders }

@@ -1,4 +1,4 @@
--- Document 01 as definitions, all but plan's, in its order; and of document 02, orders by paper format and the default due-in.
+-- Document 01 as definitions, all but plan's, in its order; and of document 02, orders by paper format, the default due-in and the nearer due time.
 pub mod Lists
 pub mod Limits
 pub mod Bytes
@@ -19,3 +19,4 @@ pub mod Table
 pub mod Cases
 pub mod FormatCases
 pub mod DefaultCases
+pub mod TieCases

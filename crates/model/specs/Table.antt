@@ -11,7 +11,7 @@ use Rattle.model.specs.declared.Service.{Service}
 use Rattle.model.specs.Lists.{isZero, part, roundedUp, total, largest, larger, concat, all, any, has, same, only, numbered, allStations, upward}
 use Rattle.model.specs.Bytes.{eightBytes, eightHalves}
 use Rattle.model.specs.State.{fresh}
-use Rattle.model.specs.Tick.{precedes, better, first, entryOf, startAt, startEach, oneLess, stationAfter, vacate, ticketOut, view, moveTo, starts, tick, leave, advance, advanceOut}
+use Rattle.model.specs.Tick.{keyAt, before, precedes, better, first, entryOf, startAt, startEach, oneLess, stationAfter, vacate, ticketOut, view, moveTo, starts, tick, leave, advance, advanceOut}
 use Rattle.model.specs.DelayBound.{sumOf, maximaOf, delayBound, boundTick, onTime, margin}
 use Rattle.model.specs.Layout.{imageSize, replySize}
 use Rattle.model.specs.Image.{marked, serviceOf, serviceBytes, orderOf, orderBytes, decode, encode}
@@ -90,7 +90,7 @@ pub record Read : Type 0 where
 
 -- The long line names all that the calls compute with, so that a proof unfolds `Hold` alone.
 unfoldable pub readRow : Run → Row → Read
-unfolding overwritten mayChange outTick gave opened onward total largest larger concat all any has same only numbered allStations upward eightBytes eightHalves fresh precedes better first entryOf startAt startEach oneLess stationAfter vacate ticketOut view moveTo starts tick leave advance advanceOut sumOf maximaOf delayBound boundTick onTime margin marked serviceOf serviceBytes orderOf orderBytes decode encode stationCountInRange liveCountInRange clockInRange zeroBytes zeroBytesZero unusedRecordsZero rising ticketsInOrder acceptedByNow dueInRange stationInUse costsInRange maximaInRange sumInRange zeroBeyond recordZeroBeyond isIdle fieldsBeyondZero serves servicesInOrder clauses sound firstNo replyBytes blockOf dueOf arrival joinedBy joinedLive accept smallest smallestMargin blockLengthQuestion blockQuestions stateQuestions orderQuestions offerAnswer quoteAnswer result replyQuestion lengthQuestion imageQuestions openNumber openCall offerNumber offerCall quoteCall roundedUp fixedTicks speeds longSide formatCost upToStation formatBlock formatQuestions formatOrderQuestions formatNumber offerFormatCall quoteFormatCall advanceNumber advanceAnswer advanceCall perform begun isNone live liveOrders entryDue members entryBound entering joins acceptIn entryView startsIn tickIn leaves leaveIn advanceIn feed recordOf stateOf
+unfolding overwritten mayChange outTick gave opened onward total largest larger concat all any has same only numbered allStations upward eightBytes eightHalves fresh keyAt before precedes better first entryOf startAt startEach oneLess stationAfter vacate ticketOut view moveTo starts tick leave advance advanceOut sumOf maximaOf delayBound boundTick onTime margin marked serviceOf serviceBytes orderOf orderBytes decode encode stationCountInRange liveCountInRange clockInRange zeroBytes zeroBytesZero unusedRecordsZero rising ticketsInOrder acceptedByNow dueInRange stationInUse costsInRange maximaInRange sumInRange zeroBeyond recordZeroBeyond isIdle fieldsBeyondZero serves servicesInOrder clauses sound firstNo replyBytes blockOf dueOf arrival joinedBy joinedLive accept smallest smallestMargin blockLengthQuestion blockQuestions stateQuestions orderQuestions offerAnswer quoteAnswer result replyQuestion lengthQuestion imageQuestions openNumber openCall offerNumber offerCall quoteCall roundedUp fixedTicks speeds longSide formatCost upToStation formatBlock formatQuestions formatOrderQuestions formatNumber offerFormatCall quoteFormatCall advanceNumber advanceAnswer advanceCall perform begun isNone live liveOrders entryDue members entryBound entering joins acceptIn entryView startsIn tickIn leaves leaveIn advanceIn feed recordOf stateOf
 readRow run (opens n) =
     let r = perform (opening n) (run .image) (lent replySize) in
     record { holds = gave (opening n) (run .image) 0 (replyBytes 0 zeros) r; run = opened n r }

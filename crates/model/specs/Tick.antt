@@ -1,5 +1,5 @@
 -- Document 01, "The course of one tick". It is said of views of orders, so that no stored sum can steer it.
-use mathlib.Core.Bool.{Bool, cond, _&&_}
+use mathlib.Core.Bool.{Bool, false, cond, _&&_}
 use mathlib.Core.List.{List, [], _∷_, map}
 use mathlib.Core.Option.{Option, none, some}
 use Prim.Native.Nat.{ℕ, _+_, _-_}
@@ -12,16 +12,25 @@ use Rattle.model.specs.State.{State, idle}
 -- What the course of a tick sees of a live order.
 pub record View : Type 0 where
   pub ticket : ℕ
+  pub due : ℕ
   pub station : ℕ
   pub ranks : List ℕ
   pub costs : List ℕ
 
--- "the smallest rank there; equal ranks go by the smaller ticket": whether a goes before b at station k.
+-- "the smallest rank there". Document 02, (v): "Equal ranks should go by the earlier due tick, then by the smaller ticket." The figures that decide at station k,
+-- in this order.
+unfoldable pub keyAt : ℕ → View → List ℕ
+keyAt k v = at 0 (v .ranks) k ∷ v .due ∷ v .ticket ∷ []
+
+-- Lexicographic order: the first figures that differ decide, and the smaller goes first.
+unfoldable pub before : List ℕ → List ℕ → Bool
+before [] ys = false
+before (x ∷ xs) [] = false
+before (x ∷ xs) (y ∷ ys) = cond (eqb x y) (before xs ys) (ltb x y)
+
+-- Whether a goes before b at station k.
 unfoldable pub precedes : ℕ → View → View → Bool
-precedes k a b =
-    let x = at 0 (a .ranks) k in
-    let y = at 0 (b .ranks) k in
-    cond (eqb x y) (ltb (a .ticket) (b .ticket)) (ltb x y)
+precedes k a b = before (keyAt k a) (keyAt k b)
 
 -- Of an order and the choice among the others, the one that goes first.
 unfoldable pub better : ℕ → View → Option View → View
@@ -64,7 +73,7 @@ ticketOut n services = let e = at idle services n in cond (isZero (e .left)) (e 
 
 -- The three steps on a state.
 unfoldable pub view : Order → View
-view o = record { ticket = o .ticket; station = o .station; ranks = o .ranks; costs = o .costs }
+view o = record { ticket = o .ticket; due = o .due; station = o .station; ranks = o .ranks; costs = o .costs }
 
 unfoldable pub moveTo : ℕ → Order → Order
 moveTo k o = record { ticket = o .ticket; accepted = o .accepted; due = o .due; sum = o .sum; station = k; ranks = o .ranks; costs = o .costs; maxima = o .maxima }

@@ -1,5 +1,6 @@
--- Laws of lists, the choice, and the three steps; then the statements of specs/.
+-- Laws of lists, who goes before whom, the choice, and the three steps; then the statements of specs/.
 pub mod Laws
+pub mod Precedence
 pub mod Choice
 pub mod Starts
 pub mod Pass

@@ -1,6 +1,7 @@
 -- Step 1: at each station of a valid state the starts do what `AtStart` says; they leave the state valid, and then no idle station has a waiting order.
 use mathlib.Core.Path.{_≡_, refl, sym, ap, subst, _∙_}
 use mathlib.Core.Logic.{_⊎_, inl, inr}
+use mathlib.Core.Bool.{false}
 use mathlib.Core.List.{List, map, Memᴰ·of-map, Memᴰ·map}
 use mathlib.Core.Option.{Option, none, some}
 use Prim.Native.Nat.{ℕ, zero, suc, _≤_, _<_}
@@ -11,10 +12,11 @@ use Rattle.model.specs.declared.Order.{Order}
 use Rattle.model.specs.declared.Service.{Service}
 use Rattle.model.specs.Lists.{at, numbered}
 use Rattle.model.specs.State.{State, idle}
-use Rattle.model.specs.Tick.{View, view, first, entryOf, startAt, startEach, starts}
+use Rattle.model.specs.Tick.{View, view, precedes, first, entryOf, startAt, startEach, starts}
 use Rattle.schedule.specs.Valid.{_∈_, serving, Waits, Busy, Fit, Valid, Ready}
 use Rattle.schedule.specs.Starts.{AtStart, rests, begins, goes-on, StartsAsAsked}
 use Rattle.schedule.proofs.Laws.{same-ticket, same-left, LeCase, leb-cases, at-numbered, at-beyond, length-numbered}
+use Rattle.schedule.proofs.Precedence.{Leads, leads}
 use Rattle.schedule.proofs.Choice.{first-none, first-some}
 
 views : State → List View
@@ -60,11 +62,13 @@ module _ (s : State) (valid : Valid s) where
       let o = w .0 in
       let is : v ≡ view o = sym (w .2) in
       let here : o .station ≡ k = ap (λ (x : View). x .station) (w .2) ∙ c .here in
+      let goes-first : (q : Order) → Waits s k q → Leads k (view o) (view q) = λ q h. leads k (view o) (view q) (subst (λ (x : View). precedes k (view q) x ≡ false) is (c .unpreceded (view q) (Memᴰ·map view (h .live)) (h .here))) in
       begins e o (record {
         waits = waits-idle k e o (w .1) here;
         entry = now ∙ ap (startAt (views s) k) e ∙ start-idle k (some v) p ∙ ap (λ (x : View). entryOf k (some x)) is;
-        smallest-rank = λ q h. subst (λ (x : View). at 0 (x .ranks) k ≤ at 0 (q .ranks) k) is (c .leads (view q) (Memᴰ·map view (h .live)) (h .here) .by-rank);
-        smaller-ticket = λ q h. subst (λ (x : View). at 0 (q .ranks) k ≡ at 0 (x .ranks) k → x .ticket ≤ q .ticket) is (c .leads (view q) (Memᴰ·map view (h .live)) (h .here) .by-ticket);
+        smallest-rank = λ q h. goes-first q h .by-rank;
+        earliest-due = λ q h. goes-first q h .by-due;
+        smallest-ticket = λ q h. goes-first q h .by-ticket;
       })
 
   -- a station that there is none of stays idle, and nobody waits there

@@ -8,35 +8,40 @@ ghost use lib.ListN.{take};
 ghost use Rattle.model.specs.Limits.{maxStations};
 ghost use Rattle.model.specs.Lists.{isZero};
 ghost use Rattle.model.specs.Tick as tick;
-ghost use Rattle.tick.specs.Selection.{Queue, candidateOf};
+ghost use Rattle.tick.specs.Selection.{Queue, candidateOf, keyOf};
 ghost use Rattle.tick.specs.Selection as defined;
 use model::Order;
 use model::Service;
 
-// The order that would start at a station: its ticket, and its cost and rank there; (0, 0, 0) for nobody.
+// The order that would start at a station: its ticket, its due tick, and its cost and rank there; zeros for nobody.
 pub struct Candidate {
     pub ticket: u32,
+    pub due: u32,
     pub left: u16,
     pub rank: u8,
 }
 
-// Whether an order goes before another: the rule of the queue, here alone. Neither the larger rank nor, of equal ranks, the
-// larger ticket meets the promise.
-fn precedes(rank: u8, ticket: u32, other_rank: u8, other_ticket: u32) -> bool
-    ensures { λ r. ⌜ r ≡ defined.before rank ticket «other_rank» «other_ticket» ⌝ }
+// Whether a candidate goes before another: the rule of the queue, here alone. Neither the later due tick of equal ranks nor
+// a smaller ticket before an earlier due tick meets the promise.
+fn precedes(c: Candidate, other: Candidate) -> bool
+    ensures { λ r. ⌜ r ≡ tick.before (keyOf c) (keyOf other) ⌝ }
 {
-    if rank == other_rank {
-        ticket < other_ticket
+    if c.rank == other.rank {
+        if c.due == other.due {
+            c.ticket < other.ticket
+        } else {
+            c.due < other.due
+        }
     } else {
-        rank < other_rank
+        c.rank < other.rank
     }
 }
 
-// Whether an order goes before the one found so far, which may be nobody.
-fn goes_first(rank: u8, ticket: u32, other_rank: u8, other_ticket: u32) -> bool
-    ensures { λ r. ⌜ r ≡ (isZero «other_ticket» || defined.before rank ticket «other_rank» «other_ticket») ⌝ }
+// Whether a candidate goes before the one found so far, which may be nobody.
+fn goes_first(c: Candidate, other: Candidate) -> bool
+    ensures { λ r. ⌜ r ≡ (isZero (other .ticket) || tick.before (keyOf c) (keyOf other)) ⌝ }
 {
-    (other_ticket == 0) | precedes(rank, ticket, other_rank, other_ticket)
+    (other.ticket == 0) | precedes(c, other)
 }
 
 // An order as a candidate at the station of place i, counted from 0.
@@ -46,6 +51,7 @@ fn candidate_at(o: Order, i: usize) -> Candidate
 {
     Candidate {
         ticket: o.ticket,
+        due: o.due,
         left: o.costs[i],
         rank: o.ranks[i],
     }
@@ -59,6 +65,7 @@ pub fn candidates(services: [Service; 8], orders: [Order; 32], live: usize) -> [
 {
     let mut found = [Candidate {
         ticket: 0,
+        due: 0,
         left: 0,
         rank: 0,
     }; 8];
@@ -70,8 +77,7 @@ pub fn candidates(services: [Service; 8], orders: [Order; 32], live: usize) -> [
         let here = services[k];
         if here.ticket == 0 {
             let c = candidate_at(o, k);
-            let f = found[k];
-            if goes_first(c.rank, c.ticket, f.rank, f.ticket) {
+            if goes_first(c, found[k]) {
                 found[k] = c;
             }
         }

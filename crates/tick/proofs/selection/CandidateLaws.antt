@@ -16,7 +16,7 @@ use Rattle.model.specs.declared.Service.{Service}
 use Rattle.model.specs.Limits.{maxStations, maxLive}
 use Rattle.model.specs.Lists.{isZero}
 use Rattle.model.specs.State.{idle}
-use Rattle.model.specs.Tick.{View, view, precedes, better, first}
+use Rattle.model.specs.Tick.{View, view, keyAt, before, precedes, better, first}
 use Rattle.lists.proofs.Tests.{either, length-numbered, getD-numbered}
 use Rattle.lists.proofs.Fills.{past}
 use Rattle.schedule.specs.Valid.{_∈_}
@@ -24,7 +24,7 @@ use Rattle.schedule.proofs.Laws.{EqCase, eqb-cases, by-cond}
 use Rattle.schedule.proofs.Choice.{first-some}
 use Rattle.image_laws.proofs.Rows.{getD-in}
 use Rattle.tick.specs.declared.selection.Candidate.{Candidate}
-use Rattle.tick.specs.Selection.{Placed, Queue, nobody, candidateOf, candidateFor, candidates, before, preferred}
+use Rattle.tick.specs.Selection.{Placed, Queue, nobody, candidateOf, candidateFor, candidates, keyOf, preferred}
 
 candidates-length : (views : List View) (services : List Service) → length (candidates views services) ≡ length services
 unfolding candidates
@@ -48,7 +48,7 @@ nobody-yet services long =
 
 -- The code's comparison is the definition's, where whoever was found before has a ticket.
 prefers : (k : ℕ) (v : View) (rest : Option View) → ((w : View) → rest ≡ some w → 1 ≤ w .ticket) → preferred (candidateOf k (some v)) (candidateOf k rest) ≡ candidateOf k (some (better k v rest))
-unfolding preferred candidateOf before better precedes
+unfolding preferred candidateOf keyOf better precedes keyAt
 prefers k v none named = refl
 prefers k v (some w) named =
     let n : 1 ≤ w .ticket = named w refl in
@@ -159,7 +159,7 @@ module _ (services : List Service) (services-long : length services ≡ maxStati
       held = getD found place nobody
 
       abbrev goes : Bool
-      goes = isZero (held .ticket) || before (c .rank) (c .ticket) (held .rank) (held .ticket)
+      goes = isZero (held .ticket) || before (keyOf c) (keyOf held)
 
       pub one-found : {b : Bool} → b ≡ goes → b ≡ true → set found place c ≡ candidates (map view (drop (i - 1) (take live orders))) services
       unfolding preferred

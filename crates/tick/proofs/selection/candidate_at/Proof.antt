@@ -6,18 +6,18 @@ use Rattle.tick.specs.Selection.{candidateOf}
 use Rattle.tick.proofs.selection.candidate_at.Statement.{statement}
 use Rattle.tick.proofs.selection.candidate_at.Tie as tie
 
-mul-t5 : tie.Need-mul-t5
-mul-t5 c = search needs
+mul-t6 : tie.Need-mul-t6
+mul-t6 c = search needs
 
-element-copy-out-t8 : tie.Need-element-copy-out-t8
-element-copy-out-t8 c = search needs
+element-copy-out-t9 : tie.Need-element-copy-out-t9
+element-copy-out-t9 c = search needs
 
-element-copy-out-t11 : tie.Need-element-copy-out-t11
-element-copy-out-t11 c = search needs
+element-copy-out-t12 : tie.Need-element-copy-out-t12
+element-copy-out-t12 c = search needs
 
 returns : tie.Need-returns
 unfolding candidateOf view
 returns c = refl
 
 pub candidate-at-spec : {M : Type 1} → statement M
-candidate-at-spec = tie.close (tie.spec mul-t5 element-copy-out-t8 element-copy-out-t11 returns)
+candidate-at-spec = tie.close (tie.spec mul-t6 element-copy-out-t9 element-copy-out-t12 returns)

@@ -60,11 +60,11 @@ array-copy-out-here c = omega (arith, here (c .before .before) .high, here (c .b
 candidate-at-requires : tie.Need-candidate-at-requires Inv-loop μ-loop
 candidate-at-requires c κs = omega (arith, here (c .before .before .before .before .before) .high, here (c .before .before .before .before .before) .low)
 
-mul-f : tie.Need-mul-f Inv-loop μ-loop
-mul-f c = omega (arith, here (c .before .before .before .before .before .before) .high)
+mul-goes-first : tie.Need-mul-goes-first Inv-loop μ-loop
+mul-goes-first c = omega (arith, here (c .before .before .before .before .before .before) .high)
 
-array-copy-out-f : tie.Need-array-copy-out-f Inv-loop μ-loop
-array-copy-out-f c = omega (arith, here (c .before .before .before .before .before .before) .high, here (c .before .before .before .before .before .before) .low)
+array-copy-out-goes-first : tie.Need-array-copy-out-goes-first Inv-loop μ-loop
+array-copy-out-goes-first c = omega (arith, here (c .before .before .before .before .before .before) .high, here (c .before .before .before .before .before .before) .low)
 
 goes-first-requires : tie.Need-goes-first-requires Inv-loop μ-loop
 goes-first-requires c κs = search needs
@@ -137,8 +137,8 @@ candidates-spec =
     mul-here
     array-copy-out-here
     candidate-at-requires
-    mul-f
-    array-copy-out-f
+    mul-goes-first
+    array-copy-out-goes-first
     goes-first-requires
     mul-found
     array-set-from-found
