@@ -5,6 +5,7 @@ use Rattle.plan_model.proofs.Overlap.{every-overlap}
 use Rattle.plan_model.proofs.Thesis.{on-time-by-thesis}
 use Rattle.plan_model.proofs.Cases.{chapter-six-holds, thesis-rows-hold, largest-response-holds}
 use Rattle.plan_model.proofs.Leaves.{leaves, not-read}
+use Rattle.schedule.proofs.Precedence.{precedes-in-order}
 use Rattle.call_laws.proofs.opens.Exact.{opens-fresh}
 use Rattle.call_laws.proofs.offers.Exact.{exact}
 use Rattle.call_laws.proofs.offers.Kept.{offer-keeps-sound, quote-gives-offer, format-quote-gives-offer}
@@ -47,6 +48,7 @@ claims =
       thousandths-mean = thousandths-mean;
       whatever-chunks = whatever-chunks;
       reads-as-whole = reads-as-whole;
+      goes-before = precedes-in-order;
       ticks = ticks;
       ticks-over-runs = after-every-list TicksAsAsked ticks-of;
       timely = timely;

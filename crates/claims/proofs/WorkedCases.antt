@@ -7,11 +7,13 @@ use Rattle.model.specs.Table.{Row, Held, held, AllHold, EachFrom}
 use Rattle.model.specs.Cases.{paperCases}
 use Rattle.model.specs.FormatCases.{formatCases}
 use Rattle.model.specs.DefaultCases.{defaultCases}
+use Rattle.model.specs.TieCases.{tieCases}
 use Rattle.model.proofs.Cases.{paper-cases-hold}
 use Rattle.model.proofs.FormatCases.{format-cases-hold}
 use Rattle.model.proofs.DefaultCases.{default-cases-hold}
-use Rattle.log_model.specs.Cases.{Rerunning, isRerun, logTables, Share, isShare, shares}
-use Rattle.log_model.proofs.Cases.{logs-hold, shares-hold}
+use Rattle.model.proofs.TieCases.{tie-cases-hold}
+use Rattle.log_model.specs.Cases.{Rerunning, isRerun, logTables, tieLogs, Share, isShare, shares}
+use Rattle.log_model.proofs.Cases.{logs-hold, tie-logs-hold, shares-hold}
 use Rattle.plan_model.specs.Cases.{Printing, isPrinted, paperTables, insideTables}
 use Rattle.plan_model.proofs.Cases.{paper-tables-hold, inside-tables-hold}
 use Rattle.claims.specs.WorkedCases.{Case, ofCalls, ofPlan, ofLog, ofShare, CaseHolds, EachHolds, paperTable, WorkedCases}
@@ -62,4 +64,6 @@ worked-cases-hold =
     and plans insideTables inside-tables-hold
     and calls defaultCases default-cases-hold
     and logs logTables logs-hold
-    and columns shares shares-hold) .1
+    and columns shares shares-hold
+    and calls tieCases tie-cases-hold
+    and logs tieLogs tie-logs-hold) .1

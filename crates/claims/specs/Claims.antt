@@ -16,6 +16,7 @@ use Rattle.plan_model.specs.Cases.{isPrinted, chapterSix, isThesisRow, thesisRo
 use Rattle.log_model.specs.Rerun.{DeclinedDisagrees}
 use Rattle.log_model.specs.Rounding.{ThousandthsMean}
 use Rattle.log_laws.specs.Meaning.{WrittenReruns, SameMeans, PrintsAsAsked, WhateverChunks, ReadsAsWhole}
+use Rattle.schedule.specs.Precedence.{PrecedesInOrder}
 use Rattle.call_laws.specs.OpenExact.{OpensFresh}
 use Rattle.call_laws.specs.OfferExact.{Exact}
 use Rattle.call_laws.specs.OfferKept.{OfferKeepsSound, QuoteGivesOffer, FormatQuoteGivesOffer}
@@ -57,6 +58,9 @@ pub record Claims : Type 0 where
   -- Logs of any length: what has been fed determines the state, and what is printed of it is what is printed for the log.
   pub whatever-chunks : WhateverChunks
   pub reads-as-whole : ReadsAsWhole
+  -- Document 02, (v): "Equal ranks should go by the earlier due tick, then by the smaller ticket." Who goes before whom at a station is a strict total order;
+  -- `ticks` says who starts.
+  pub goes-before : PrecedesInOrder
   -- "demand 2's starts": the course of each tick, when an order may start first, and the way of each order, of every image of bytes and after every list of calls.
   pub ticks : OfEveryImage TicksAsAsked
   pub ticks-over-runs : AfterEveryList TicksAsAsked

@@ -38,7 +38,8 @@ AfterEveryList Says =
 
 -- A done advance, from the state that the image says.
 pub record TickAsAsked (image reply : List ℕ) (s : State) : Type 0 where
-  -- 1. "Each idle station with waiting orders starts the one with the smallest rank there; equal ranks go by the smaller ticket."
+  -- 1. "Each idle station with waiting orders starts the one with the smallest rank there". Document 02, (v): "Equal ranks should go by the earlier due tick, then
+  -- by the smaller ticket."
   pub each-starts : (k : ℕ) → AtStart s k
   -- 2 and 3, from the entries that the starts leave: "each order in service has one tick less to go. An order with nothing to go leaves its station".
   pub each-passes : Passes (map oneLess (starts s .services)) (starts s)

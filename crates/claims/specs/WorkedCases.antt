@@ -6,7 +6,8 @@ use Rattle.model.specs.Table.{Row, Hold}
 use Rattle.model.specs.Cases.{paperCases}
 use Rattle.model.specs.FormatCases.{formatCases}
 use Rattle.model.specs.DefaultCases.{defaultCases}
-use Rattle.log_model.specs.Cases.{Rerunning, isRerun, logTables, Share, isShare, shares}
+use Rattle.model.specs.TieCases.{tieCases}
+use Rattle.log_model.specs.Cases.{Rerunning, isRerun, logTables, tieLogs, Share, isShare, shares}
 use Rattle.plan_model.specs.Cases.{Printing, isPrinted, paperTables, insideTables}
 
 pub data Case : Type 0 where
@@ -30,7 +31,9 @@ EachHolds [] = Unit {0}
 EachHolds (case ∷ later) = CaseHolds case × EachHolds later
 
 unfoldable pub paperTable : List Case
-paperTable = map ofCalls paperCases ++ map ofPlan paperTables ++ map ofCalls formatCases ++ map ofPlan insideTables ++ map ofCalls defaultCases ++ map ofLog logTables ++ map ofShare shares
+paperTable =
+    map ofCalls paperCases ++ map ofPlan paperTables ++ map ofCalls formatCases ++ map ofPlan insideTables ++ map ofCalls defaultCases ++ map ofLog logTables
+    ++ map ofShare shares ++ map ofCalls tieCases ++ map ofLog tieLogs
 
 abbrev pub WorkedCases : Type 0
 WorkedCases = EachHolds paperTable

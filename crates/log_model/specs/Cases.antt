@@ -97,6 +97,15 @@ fieldLogs =
 abbrev pub logTables : List Rerunning
 logTables = shortLogs ++ (servedLogs ++ (halfLogs ++ (differingLogs ++ (otherLogs ++ fieldLogs))))
 
+-- Document 02, (v): "The rule for picking a sheet changes, and with it advance and the rerun." Of equal ranks ticket 2 is due first and is out first; in a log by
+-- the smaller ticket line 5 disagrees. And two due ticks that are equal, by ticket, where the later ticket has the smaller due-in.
+abbrev pub tieLogs : List Rerunning
+tieLogs =
+    (ascii "N 1\nO 20 5 3 0 1\nO 10 5 2 0 2\nT 0\nT 2\nT 0\nT 0\nT 1\n" reruns ascii "same\n1 5 1000\n")
+    ∷ (ascii "N 1\nO 20 5 3 0 1\nO 10 5 2 0 2\nT 0\nT 0\nT 1\nT 0\nT 2\n" reruns ascii "differs 5\n")
+    ∷ (ascii "N 1\nO 20 0 3 0 1\nO 20 5 2 0 2\nT 0\nO 19 5 1 0 3\nT 0\nT 1\nT 0\nT 2\nT 3\n" reruns ascii "same\n1 6 1000\n")
+    ∷ []
+
 -- So many busy ticks of so many, and their thousandths. 1 of 2,000 is half a thousandth, 3 of 2,000 are one and a half.
 pub record Share : Type 0 where
   pub busy : ℕ

@@ -149,7 +149,7 @@ bytesInOrder =
     ∷ replies (quoting (1 ∷ replicate 11 0 ++ (1 ∷ 0 ∷ 1 ∷ replicate 13 0))) 11 (11 ∷ replicate 11 0 ++ (76 ∷ 235 ∷ 255 ∷ 255 ∷ []))
     ∷ []
 
--- Three orders with equal ranks at once: "equal ranks go by the smaller ticket".
+-- Three orders with equal ranks and equal due ticks at once: by the smaller ticket.
 unfoldable pub equalRanks : List Row
 equalRanks =
     opens 2 ∷ accepts (order 20 9 (1 ∷ 2 ∷ [])) 1 3 (pos 17) ∷ accepts (order 20 9 (2 ∷ 1 ∷ [])) 2 6 (pos 14) ∷ accepts (order 20 9 (1 ∷ 1 ∷ [])) 3 7 (pos 13)
@@ -160,8 +160,8 @@ equalRanks =
     ∷ advances 3 5 ∷ outs (3 ∷ 4 ∷ 5 ∷ []) ∷ bounds (7 ∷ 7 ∷ 7 ∷ []) ∷ inStep
     ∷ []
 
--- "the smallest rank there": each station by its own ranks. Tickets 1 and 2 have equal ranks at station 2 and go by ticket there, though 2 has the
--- better rank at station 1 and came to station 2 before 1. Ticket 2 is out at its bound.
+-- "the smallest rank there": each station by its own ranks. Tickets 1 and 2 have equal ranks at station 2, and equal due ticks, and go by ticket there,
+-- though 2 has the better rank at station 1 and came to station 2 before 1. Ticket 2 is out at its bound.
 unfoldable pub ranksOfTheStation : List Row
 ranksOfTheStation =
     opens 2 ∷ accepts (block 20 (5 ∷ 5 ∷ []) (1 ∷ 1 ∷ [])) 1 2 (pos 18) ∷ accepts (block 20 (3 ∷ 5 ∷ []) (1 ∷ 1 ∷ [])) 2 3 (pos 17)

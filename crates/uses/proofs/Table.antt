@@ -9,9 +9,10 @@ use lib.IntN.{pos, negsuc}
 use Rattle.model.specs.Formats.{FormatOrder}
 use Rattle.model.specs.Calls.{offering, quotingFormat, offeringFormat, advancing}
 use Rattle.model.specs.Table.{Row, opens, gives, serving, outs, bounds, inStep, Hold}
-use Rattle.model.specs.Cases.{order, X, Y, accepts, late, advances, firstTwo, lateArrival, lateLive, ranksReversed, startsAtTwo, oneStation, eightStations, paperCases}
+use Rattle.model.specs.Cases.{block, order, X, Y, accepts, late, advances, firstTwo, lateArrival, lateLive, ranksReversed, startsAtTwo, oneStation, eightStations, paperCases}
 use Rattle.model.specs.FormatCases.{sheetOf, byFormat, takes, tooLate, refuses, tells, twoStations, firstTwoByFormat, lateByFormat, told, tenFormats, formatNumbers, formatCases}
 use Rattle.model.specs.DefaultCases.{sidesOfDefault, sidesWithLive, sidesByFormat, defaultCases}
+use Rattle.model.specs.TieCases.{laterTicketDueFirst, equalDueTicks, rankBeforeDueTick, dueTickNotDueIn, tieAtTheNextStation, tieCases}
 use Rattle.text.specs.Ascii.{ascii}
 use Rattle.log_model.specs.Cases.{_reruns_, isRerun, idleTicks, isShare}
 use Rattle.plan_model.specs.Cases.{_prints_, isPrinted}
@@ -54,6 +55,15 @@ ofLogs =
 inThousandths : (isShare (record { busy = 1; all = 2000; printed = 1 }) ≡ true) × (isShare (record { busy = 3; all = 2000; printed = 2 }) ≡ true) × (isShare (record { busy = 4000000000; all = 4000000000; printed = 1000 }) ≡ true)
 unfolding paperTable paperCases formatCases defaultCases
 inThousandths = let c = claims .worked-cases .1 .1 .1 .1 .1 .1 .1 .1 .1 .1 .1 .1 .1 .1 .1 .1 .1 .1 .1 .1 .1 .1 .1 .1 .1 .1 .1 .1 .1 .1 .1 .1 .1 .1 .1 .1 .1 .1 .1 .1 .1 .1 .1 .1 .1 .1 .1 .1 .1 .1 .1 .1 in (c .1 .1 .0, c .1 .1 .1 .0, c .1 .1 .1 .1 .1 .1 .1 .0)
+
+-- ---- those of ties, of calls and of logs
+byDueTick : Hold laterTicketDueFirst × Hold equalDueTicks × Hold rankBeforeDueTick × Hold dueTickNotDueIn × Hold tieAtTheNextStation
+unfolding paperTable paperCases formatCases defaultCases tieCases
+byDueTick = let c = claims .worked-cases .1 .1 .1 .1 .1 .1 .1 .1 .1 .1 .1 .1 .1 .1 .1 .1 .1 .1 .1 .1 .1 .1 .1 .1 .1 .1 .1 .1 .1 .1 .1 .1 .1 .1 .1 .1 .1 .1 .1 .1 .1 .1 .1 .1 .1 .1 .1 .1 .1 .1 .1 .1 .1 .1 .1 .1 .1 .1 .1 .1 in (c .0, c .1 .0, c .1 .1 .0, c .1 .1 .1 .0, c .1 .1 .1 .1 .0)
+
+tieLogs : (isRerun (ascii "N 1\nO 20 5 3 0 1\nO 10 5 2 0 2\nT 0\nT 2\nT 0\nT 0\nT 1\n" reruns ascii "same\n1 5 1000\n") ≡ true) × (isRerun (ascii "N 1\nO 20 5 3 0 1\nO 10 5 2 0 2\nT 0\nT 0\nT 1\nT 0\nT 2\n" reruns ascii "differs 5\n") ≡ true) × (isRerun (ascii "N 1\nO 20 0 3 0 1\nO 20 5 2 0 2\nT 0\nO 19 5 1 0 3\nT 0\nT 1\nT 0\nT 2\nT 3\n" reruns ascii "same\n1 6 1000\n") ≡ true)
+unfolding paperTable paperCases formatCases defaultCases tieCases
+tieLogs = let c = claims .worked-cases .1 .1 .1 .1 .1 .1 .1 .1 .1 .1 .1 .1 .1 .1 .1 .1 .1 .1 .1 .1 .1 .1 .1 .1 .1 .1 .1 .1 .1 .1 .1 .1 .1 .1 .1 .1 .1 .1 .1 .1 .1 .1 .1 .1 .1 .1 .1 .1 .1 .1 .1 .1 .1 .1 .1 .1 .1 .1 .1 .1 .1 .1 .1 .1 .1 in (c .0, c .1 .0, c .1 .1 .0)
 
 -- ---- their rows: an offer with its number, ticket, tick and margin; an advance with the ticket out and the clock
 abbrev rowAt : List Row → ℕ → Row
@@ -146,6 +156,32 @@ ofA1 dueIn fixed = byFormat 1 dueIn 0 (sheetOf (fixed ∷ 5159 ∷ []) (1 ∷ 1 
 sides-by-format : (rowAt sidesByFormat 2 ≡ offeredFormat (ofA1 0 2159) 1 9000 0) × (rowAt sidesByFormat 8 ≡ gives (offeringFormat (ofA1 0 2160)) 11 (record { ticket = 0; tick = 0; margin = negsuc 0 })) × (rowAt sidesByFormat 9 ≡ offeredFormat (ofA1 18000 2160) 1 9001 8999) × (rowAt sidesByFormat 14 ≡ gives (offeringFormat (byFormat 6 0 0 (sheetOf (replicate 8 5000) (replicate 8 1)))) 11 (record { ticket = 0; tick = 0; margin = negsuc 38999 }))
 unfolding sidesByFormat takes tooLate
 sides-by-format = (refl, refl, refl, refl)
+
+-- Document 02, (v): "two equal ranks and the later ticket due first"; equal due ticks; the rank before the due tick; the due tick and not the due-in; at the next
+-- station.
+tie-lengths : (length laterTicketDueFirst ≡ 18) × (length equalDueTicks ≡ 15) × (length rankBeforeDueTick ≡ 17) × (length dueTickNotDueIn ≡ 21) × (length tieAtTheNextStation ≡ 19)
+unfolding laterTicketDueFirst equalDueTicks rankBeforeDueTick dueTickNotDueIn tieAtTheNextStation
+tie-lengths = (refl, refl, refl, refl, refl)
+
+later-ticket-due-first : (rowAt laterTicketDueFirst 1 ≡ offered (X 20 5) 1 5 15) × (rowAt laterTicketDueFirst 2 ≡ offered (Y 7 5) 2 7 0) × (rowAt laterTicketDueFirst 11 ≡ advanced 2 3) × (rowAt laterTicketDueFirst 15 ≡ outs (6 ∷ 3 ∷ []))
+unfolding laterTicketDueFirst accepts advances
+later-ticket-due-first = (refl, refl, refl, refl)
+
+equal-due-ticks : (rowAt equalDueTicks 2 ≡ offered (order 20 5 (2 ∷ [])) 2 5 15) × (rowAt equalDueTicks 3 ≡ advanced 0 1) × (rowAt equalDueTicks 4 ≡ offered (order 19 5 (1 ∷ [])) 3 7 13) × (rowAt equalDueTicks 12 ≡ outs (3 ∷ 5 ∷ 6 ∷ []))
+unfolding equalDueTicks accepts advances
+equal-due-ticks = (refl, refl, refl, refl)
+
+rank-before-due-tick : (rowAt rankBeforeDueTick 1 ≡ offered (Y 7 5) 1 3 4) × (rowAt rankBeforeDueTick 2 ≡ offered (X 20 0) 2 7 0) × (rowAt rankBeforeDueTick 14 ≡ outs (7 ∷ 5 ∷ []))
+unfolding rankBeforeDueTick accepts advances
+rank-before-due-tick = (refl, refl, refl)
+
+due-tick-not-due-in : (rowAt dueTickNotDueIn 2 ≡ offered (order 20 5 (1 ∷ [])) 2 5 15) × (rowAt dueTickNotDueIn 5 ≡ offered (order 19 5 (2 ∷ [])) 3 9 12) × (rowAt dueTickNotDueIn 6 ≡ offered (order 17 5 (3 ∷ [])) 4 12 7) × (rowAt dueTickNotDueIn 18 ≡ outs (4 ∷ 8 ∷ 10 ∷ 7 ∷ []))
+unfolding dueTickNotDueIn accepts advances
+due-tick-not-due-in = (refl, refl, refl, refl)
+
+tie-at-the-next-station : (rowAt tieAtTheNextStation 3 ≡ offered (block 20 (2 ∷ 5 ∷ []) (1 ∷ 2 ∷ [])) 3 8 12) × (rowAt tieAtTheNextStation 14 ≡ advanced 3 7) × (rowAt tieAtTheNextStation 16 ≡ outs (5 ∷ 8 ∷ 7 ∷ []))
+unfolding tieAtTheNextStation accepts advances
+tie-at-the-next-station = (refl, refl, refl)
 
 abbrev sideTold : ℕ → ℕ → ℕ → Row
 sideTold format side margin = gives (quotingFormat (byFormat format 2000 0 (sheetOf [] (1 ∷ [])))) 0 (record { ticket = 0; tick = side; margin = pos margin })

@@ -1,8 +1,8 @@
--- A use of what each tick does, of images: who starts, who goes on, who leaves and who is out, and the reply. Three orders wait at station 1; the image is taken
+-- A use of who goes before whom, and of what each tick does, of images: who starts, who goes on, who leaves and who is out, and the reply. Four orders wait at station 1; the image is taken
 -- before the first advance, before the second and before the third.
 use mathlib.Core.Path.{_≡_, refl, sym, ap, subst, _∙_}
-use mathlib.Core.Logic.{_≢_}
-use mathlib.Core.Bool.{true}
+use mathlib.Core.Logic.{_≢_, inl, inr}
+use mathlib.Core.Bool.{true, false, true≢false}
 use mathlib.Core.List.{List, [], _∷_, map, List·Memᴰ·head, List·Memᴰ·tail}
 use Prim.Native.Nat.{ℕ, zero, suc, _≤_}
 use native.Mathlib.Omega.{arith}
@@ -12,7 +12,7 @@ use Rattle.model.specs.declared.Order.{Order}
 use Rattle.model.specs.declared.Service.{Service}
 use Rattle.model.specs.Lists.{at}
 use Rattle.model.specs.State.{State, idle}
-use Rattle.model.specs.Tick.{oneLess, starts, advance, moveTo}
+use Rattle.model.specs.Tick.{View, precedes, oneLess, view, starts, advance, moveTo}
 use Rattle.model.specs.Image.{decode}
 use Rattle.model.specs.Runs.{started, outcome, afterCall, afterAll, AllAllowed}
 use Rattle.model.specs.Table.{readRow}
@@ -24,17 +24,17 @@ use Rattle.image_laws.specs.InRange.{byteLimit, Below}
 use Rattle.claims.specs.Images.{TickAsAsked}
 use Rattle.claims.proofs.Claims.{claims}
 use Rattle.uses.specs.DefiniteLists.{someImage, someReply, opened, waitingCalls, waiting}
-use Rattle.uses.proofs.Words.{Figure, of-three, all-bytes}
+use Rattle.uses.proofs.Words.{Figure, of-four, all-bytes}
 
--- The state before the first advance, before the second and before the third, in figures: three orders of rank 1, 0 and 0, which wait at station 1; the second
--- in service there with one tick to go; the second at station 2.
-abbrev waits : ℕ → ℕ → ℕ → ℕ → Order
-waits ticket rank cost station =
-    record { ticket = ticket; accepted = 0; due = 60; sum = 5; station = station; ranks = rank ∷ rank ∷ replicate 6 0; costs = cost ∷ 1 ∷ replicate 6 0; maxima = 2 ∷ 1 ∷ replicate 6 0 }
+-- The state before the first advance, before the second and before the third, in figures: four orders, which wait at station 1; the second in service there with
+-- one tick to go; the second at station 2.
+abbrev waits : ℕ → ℕ → ℕ → ℕ → ℕ → Order
+waits ticket due rank cost station =
+    record { ticket = ticket; accepted = 0; due = due; sum = 6; station = station; ranks = rank ∷ rank ∷ replicate 6 0; costs = cost ∷ 1 ∷ replicate 6 0; maxima = 2 ∷ 1 ∷ replicate 6 0 }
 
 abbrev stateAt : ℕ → Service → ℕ → State
 stateAt clock entry station =
-    record { n = 2; clock = clock; next = 4; services = entry ∷ replicate 7 idle; orders = waits 1 1 2 1 ∷ waits 2 0 2 station ∷ waits 3 0 1 1 ∷ [] }
+    record { n = 2; clock = clock; next = 5; services = entry ∷ replicate 7 idle; orders = waits 1 70 0 2 1 ∷ waits 2 60 0 2 station ∷ waits 3 60 0 1 1 ∷ waits 4 50 1 1 1 ∷ [] }
 
 abbrev before : ℕ → State
 before zero = stateAt 0 idle 1
@@ -42,7 +42,7 @@ before (suc zero) = stateAt 1 (record { ticket = 2; left = 1 }) 1
 before (suc (suc count)) = stateAt 2 idle 2
 
 abbrev orderAt : ℕ → ℕ → Order
-orderAt count i = getD (before count .orders) i (waits 0 0 0 0)
+orderAt count i = getD (before count .orders) i (waits 0 0 0 0 0)
 
 -- The entries that the starts leave, with one tick less each, and the state after.
 abbrev ticked : ℕ → List Service
@@ -57,6 +57,19 @@ TakenOf count s = TickAsAsked (waiting count .image) someReply s
 abbrev Taken : ℕ → Type 0
 Taken count = TakenOf count (before count)
 
+-- ---- who goes before whom at station 1: nobody before himself; the second before the first, by the due tick, and the first before the fourth, by the rank, so
+-- the second before the fourth; of the second and the third one before the other, the second by its ticket. At station 8, where no order has a rank, the fourth
+-- goes before the second.
+abbrev viewAt : ℕ → View
+viewAt i = view (orderAt 0 i)
+
+in-order : (precedes 1 (viewAt 1) (viewAt 1) ≡ false) × (precedes 1 (viewAt 1) (viewAt 3) ≡ true) × (precedes 1 (viewAt 1) (viewAt 2) ≡ true) × (precedes 8 (viewAt 3) (viewAt 1) ≡ true)
+unfolding readRow
+in-order =
+    let one = claims .goes-before 1 in
+    let eight = claims .goes-before 8 in
+    (one .irreflexive (viewAt 1), one .transitive (viewAt 1) (viewAt 0) (viewAt 3) refl refl, elim (one .total (viewAt 1) (viewAt 2) (eqb-false 2 3 refl)) [ inl t ↦ t | inr t ↦ absurd (true≢false (sym t)) ], elim (eight .total (viewAt 1) (viewAt 3) (eqb-false 2 4 refl)) [ inl t ↦ absurd (true≢false (sym t)) | inr t ↦ t ])
+
 -- ---- before the first advance: station 1 starts the second order, which goes on, and station 2 rests
 second-waits : Waits (before 0) 1 (orderAt 0 1)
 unfolding readRow passTo
@@ -67,7 +80,12 @@ unfolding readRow passTo
 second-starts t = go (t .each-starts 1)
   where
     which : (o : Order) → o ∈ before 0 .orders → Started (before 0) 1 o → o ≡ orderAt 0 1
-    which = of-three (λ (o : Order). Started (before 0) 1 o → o ≡ orderAt 0 1) (orderAt 0 0) (orderAt 0 1) (orderAt 0 2) (λ b. absurd (let w : 1 ≤ 0 = b .smallest-rank (orderAt 0 1) second-waits in let z : ⊥ = omega (arith, w) in z)) (λ b. refl) (λ b. absurd (let w : 3 ≤ 2 = b .smaller-ticket (orderAt 0 1) second-waits refl in let z : ⊥ = omega (arith, w) in z))
+    which =
+        of-four (λ (o : Order). Started (before 0) 1 o → o ≡ orderAt 0 1) (orderAt 0 0) (orderAt 0 1) (orderAt 0 2) (orderAt 0 3)
+        (λ b. absurd (let w : 70 ≤ 60 = b .earliest-due (orderAt 0 1) second-waits refl in let z : ⊥ = omega (arith, w) in z))
+        (λ b. refl)
+        (λ b. absurd (let w : 3 ≤ 2 = b .smallest-ticket (orderAt 0 1) second-waits refl refl in let z : ⊥ = omega (arith, w) in z))
+        (λ b. absurd (let w : 1 ≤ 0 = b .smallest-rank (orderAt 0 1) second-waits in let z : ⊥ = omega (arith, w) in z))
 
     go : AtStart (before 0) 1 → (o : Order) × (o ≡ orderAt 0 1) × Figure 2 × Figure 2
     go (AtStart.rests free nobody stays) = absurd (nobody (orderAt 0 1) second-waits)
@@ -87,7 +105,7 @@ unfolding readRow passTo
 two-rests t = go (t .each-starts 2)
   where
     nobody-there : (o : Order) → o ∈ before 0 .orders → o .station ≡ 2 → ⊥
-    nobody-there = of-three (λ (o : Order). o .station ≡ 2 → ⊥) (orderAt 0 0) (orderAt 0 1) (orderAt 0 2) (eqb-false 1 2 refl) (eqb-false 1 2 refl) (eqb-false 1 2 refl)
+    nobody-there = of-four (λ (o : Order). o .station ≡ 2 → ⊥) (orderAt 0 0) (orderAt 0 1) (orderAt 0 2) (orderAt 0 3) (eqb-false 1 2 refl) (eqb-false 1 2 refl) (eqb-false 1 2 refl) (eqb-false 1 2 refl)
 
     go : AtStart (before 0) 2 → Figure 0 × Figure 0
     go (AtStart.rests free nobody stays) = (ap (λ (e : Service). e .ticket) free, ap (λ (e : Service). e .ticket) stays)
@@ -177,7 +195,7 @@ of-images =
 
 waiting-allowed : (AllAllowed (opened 2) (waitingCalls 0)) × (AllAllowed (opened 2) (waitingCalls 1)) × (AllAllowed (opened 2) (waitingCalls 2))
 unfolding waitingCalls
-waiting-allowed = ((tt, (tt, (tt, tt))), (tt, (tt, (tt, (tt, tt)))), (tt, (tt, (tt, (tt, (tt, tt))))))
+waiting-allowed = ((tt, (tt, (tt, (tt, tt)))), (tt, (tt, (tt, (tt, (tt, tt))))), (tt, (tt, (tt, (tt, (tt, (tt, tt)))))))
 
 after-lists : Taken 0 × Taken 1 × Taken 2
 unfolding readRow opened waitingCalls waiting order started afterCall outcome afterAll

@@ -25,8 +25,11 @@ of-one P x p e m = elim (List·Memᴰ·cases-cons m) [ inl i ↦ subst P (sym i)
 pub of-two : {A : Type 0} (P : A → Type 0) (x y : A) → P x → P y → (e : A) → e ∈ x ∷ y ∷ [] → P e
 of-two P x y p q e m = elim (List·Memᴰ·cases-cons m) [ inl i ↦ subst P (sym i) p | inr r ↦ of-one P y q e r ]
 
-pub of-three : {A : Type 0} (P : A → Type 0) (x y z : A) → P x → P y → P z → (e : A) → e ∈ x ∷ y ∷ z ∷ [] → P e
+of-three : {A : Type 0} (P : A → Type 0) (x y z : A) → P x → P y → P z → (e : A) → e ∈ x ∷ y ∷ z ∷ [] → P e
 of-three P x y z p q r e m = elim (List·Memᴰ·cases-cons m) [ inl i ↦ subst P (sym i) p | inr n ↦ of-two P y z q r e n ]
+
+pub of-four : {A : Type 0} (P : A → Type 0) (w x y z : A) → P w → P x → P y → P z → (e : A) → e ∈ w ∷ x ∷ y ∷ z ∷ [] → P e
+of-four P w x y z o p q r e m = elim (List·Memᴰ·cases-cons m) [ inl i ↦ subst P (sym i) o | inr n ↦ of-three P x y z p q r e n ]
 
 -- The smaller of two margins. What one of two orders has, with none below it, is that.
 abbrev pub smaller : ℤ → ℤ → ℤ

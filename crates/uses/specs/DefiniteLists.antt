@@ -121,12 +121,14 @@ unfoldable pub Q : List ℕ
 unfolding order
 Q = order 100 0 (replicate 8 3)
 
--- N = 2, three orders that wait at station 1: the first has the larger rank, the second the smaller ticket of two with equal ranks. Costs 2 and 1, 2 and 1,
--- 1 and 1. With no advance, with one, and with two.
+-- N = 2, four orders that wait at station 1. The second goes first: the first has an equal rank and is due later, the third has an equal rank, an equal due tick
+-- and a larger ticket, and the fourth, which is due before all others, has a larger rank. Costs 2 and 1, 2 and 1, 1 and 1, 1 and 1. With no advance, with one,
+-- and with two.
 unfoldable pub waitingCalls : ℕ → List Lent
 unfolding order
 waitingCalls count =
-    whole (offering (order 60 1 (2 ∷ 1 ∷ []))) ∷ whole (offering (order 60 0 (2 ∷ 1 ∷ []))) ∷ whole (offering (order 60 0 (1 ∷ 1 ∷ []))) ∷ ticks count
+    whole (offering (order 70 0 (2 ∷ 1 ∷ []))) ∷ whole (offering (order 60 0 (2 ∷ 1 ∷ []))) ∷ whole (offering (order 60 0 (1 ∷ 1 ∷ [])))
+    ∷ whole (offering (order 50 1 (1 ∷ 1 ∷ []))) ∷ ticks count
 
 unfoldable pub waiting : ℕ → Run
 waiting count = afterAll (opened 2) (waitingCalls count)
