@@ -31,7 +31,7 @@
  *
  *     bytes  0 to  3   due-in: in how many ticks from now the order is due, 1 to DISPATCHER_MAX_DUE_IN; 0 stands for DISPATCHER_DEFAULT_DUE_IN ticks (9,000)
  *     bytes  4 to 11   eight ranks of 1 byte, for stations 1 to 8: of the orders that wait at a station the one with the smallest rank is served
- *                      first, and of equal ranks the one with the smaller ticket
+ *                      first, of equal ranks the one that is due first, and of equal due ticks the one with the smaller ticket
  *     bytes 12 to 27   eight costs of 2 bytes, for stations 1 to 8: how many ticks the order takes there, 1 to DISPATCHER_MAX_COST
  *
  * Ranks and costs of stations that the cabinet does not have are 0.
@@ -344,7 +344,8 @@ uint32_t dispatcher_offer_format(uint8_t *image, size_t image_len, uint32_t form
 
 /* Lets one tick pass in the cabinet. The firmware calls it once in every 0.1 s, also while no order is live. In this order:
  *
- *     1. Each idle station at which orders wait starts one of them: the one with the smallest rank there, and of equal ranks the one with the smaller ticket.
+ *     1. Each idle station at which orders wait starts one of them: the one with the smallest rank there, of equal ranks the one with the earlier due tick, and of
+ *        equal due ticks the one with the smaller ticket. The due tick is the tick of acceptance plus the due-in.
  *     2. The clock goes up by one, and each order in service has one tick less to go.
  *     3. An order with nothing to go leaves its station. It waits at the next; after the last station it is out, and no longer live.
  *

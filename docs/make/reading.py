@@ -86,7 +86,8 @@ FILES = [
     ]),
     ("model/specs/Tick.antt", "The course of one tick", [
         ("What it sees of a live order", ["C: An order has, for each station"], ["View"]),
-        ("Who goes before whom", ["T: Each idle station", "C~ a rank (0 to 255, the smaller goes first)"], ["precedes"]),
+        ("What decides at a station", ["T: Each idle station", "v: Equal ranks should go", "C~ a rank (0 to 255, the smaller goes first)"], ["keyAt"]),
+        ("Who goes before whom", ["T~ the one with the smallest rank there", "v: Equal ranks should go"], ["before", "precedes"]),
         ("Who goes first at a station", ["T~ the one with the smallest rank there"], ["better", "first"]),
         ("Step 1, station by station", ["T: Each idle station", "R~ a start sets the ticks to go to the cost there"], ["entryOf", "startAt", "startEach"]),
         ("Step 2, at a station", ["T~ each order in service has one tick less to go"], ["oneLess"]),
@@ -101,7 +102,8 @@ FILES = [
     ("model/specs/DelayBound.antt", "The delay sum", [
         ("The members' largest costs, added up", ["D~ Delay sum of T = the largest station cost of each member, added up"], ["sumOf"]),
         ("The largest cost at each station", ["D~ the largest cost any member has there"], ["maximaOf"]),
-        ("The delay sum", ["D~ plus, for each station before N, the largest cost any member has there", "D: With N = 1", "X: Adding the last"], ["delayBound"]),
+        ("The delay sum", ["D~ plus, for each station before N, the largest cost any member has there", "D: With N = 1", "X: Adding the last",
+                             "v~ Delay sums are untouched"], ["delayBound"]),
         ("On time", ["D: T is on time"], ["boundTick", "onTime"]),
         ("Margin", ["D: Margin is"], ["margin"]),
     ]),
@@ -223,7 +225,7 @@ FILES = [
         ("The stations during each tick of a list", ["T: Each idle station", "R: Each call gets"], ["duringCall", "duringCalls"]),
     ]),
     ("claims/specs/Demand3.antt", "Demand 3", [
-        ("Each accepted order", ["R: After every such list"], ["InTime"]),
+        ("Each accepted order", ["R: After every such list", "v~ the promised due times must still hold"], ["InTime"]),
         ("Each reply", ["R: The reply of each done offer"], ["Agrees", "AllAgree"]),
         ("The claim about one list", ["R: This is a single claim", "R~ After every such list, for each accepted order"], ["Kept"]),
         ("The claim", ["R: A list starts", "R: Demand 3 speaks of", "W: Demand 3 is over runs"], ["Demand3"]),
@@ -288,8 +290,12 @@ FILES = [
                                      "W~ one fixed tick for every order (demand 2's sum)", "W~ an invented tick or margin (the delay sum)"], ["ExactAt"]),
         ("Of everything that is lent", ["W~ declining every offer (demand 2, 11 and 12 only when late)"], ["Exact"]),
     ]),
+    ("schedule/specs/Precedence.antt", "Who goes before whom, as facts", [
+        ("At a station", [FURTHER, "v: Equal ranks should go"], ["StrictTotalOrder"]),
+        ("At every station", [FURTHER, "v: Equal ranks should go"], ["PrecedesInOrder"]),
+    ]),
     ("schedule/specs/Starts.antt", "Starts, as facts", [
-        ("An order starts", ["T: Each idle station", "R~ a start sets the ticks to go to the cost there"], ["Started"]),
+        ("An order starts", ["T: Each idle station", "v: Equal ranks should go", "R~ a start sets the ticks to go to the cost there"], ["Started"]),
         ("At a station", ["T: Each idle station", "X: Stopping a sheet", "X: Skipping a start"], ["AtStart"]),
     ]),
     ("schedule/specs/Pass.antt", "Ticks, as facts", [
@@ -480,6 +486,14 @@ FILES = [
         ("The same by format", ["iii: Quote, offer and", "iii~ the workshop needs a case on each side of 9,000"], ["sidesByFormat"]),
         ("All of them", ["iii~ the workshop needs a case on each side of 9,000"], ["defaultCases"]),
     ]),
+    ("model/specs/TieCases.antt", "Worked cases of ties", [
+        ("The later ticket is due first", ["v: A case with two"], ["laterTicketDueFirst"]),
+        ("Equal due ticks", [FURTHER, "v~ then by the smaller ticket"], ["equalDueTicks"]),
+        ("The rank before the due tick", [FURTHER, "v: Equal ranks should go"], ["rankBeforeDueTick"]),
+        ("The due tick, and not the due-in", [FURTHER, "v~ by the earlier due tick", "C: Due tick ="], ["dueTickNotDueIn"]),
+        ("At the next station", [FURTHER, "v: Equal ranks should go"], ["tieAtTheNextStation"]),
+        ("All of them", ["v: A case with two"], ["tieCases"]),
+    ]),
     ("log_model/specs/Limits.antt", "The figures of a log", [
         ("The fields", ["iv~ a value too large for its field"], ["most8", "most16", "most32"]),
         ("The longest line", [FURTHER, "iv~ all single-spaced decimals without leading zeros"], ["maxLine"]),
@@ -558,6 +572,7 @@ FILES = [
         ("Lines of another form", ["iv: Refused: 21"], ["otherLogs"]),
         ("Values and their fields", ["iv~ a value too large for its field"], ["fieldLogs"]),
         ("All of them", ["iv: It runs the log"], ["logTables"]),
+        ("Ties in a log", ["v: The rule for picking"], ["tieLogs"]),
         ("The last column", ["iv~ rounded to nearest, a half upward"], ["Share", "isShare", "share", "shares"]),
     ]),
     ("claims/specs/WorkedCases.antt", "The table of worked cases", [
@@ -588,6 +603,7 @@ OVERRULED = [
     ("S~ 1 5 7 on-time 2 4 7 on-time", "ii~ Document 01's first table then has responses 9 and 10, the second task late"),
     ("S: With deadline 7", "ii~ with deadline 7 for task 2 both figures are the same"),
     ("C~ 0 stands for 18,000.", "iii: Due-in 0 is"),
+    ("T~ equal ranks go by the smaller ticket", "v: Equal ranks should go"),
 ]
 
 # Sentences of these sections, and of requests, that no definition of `Claims` renders, and where they are kept; and words that are not rendered of a sentence
