@@ -1,5 +1,5 @@
 pub mod FirstCase
-pub mod DefaultCases
 pub mod TieCases
+pub mod DefaultCases
 pub mod FormatCases
 pub mod Cases

@@ -20,7 +20,7 @@ due-tick-not-due-in-hold : Hold dueTickNotDueIn
 unfolding Hold order accepts advances dueTickNotDueIn
 due-tick-not-due-in-hold = after rank-before-due-tick-hold (held 1, (held 2, (held 3, (held 4, (held 5, (held 6, (held 7, (held 8, (held 9, (held 10, (held 11, (held 12, (held 13, (held 14, (held 15, (held 16, (held 17, (held 18, (held 19, (held 20, (held 21, tt)))))))))))))))))))))
 
-tie-at-the-next-station-hold : Hold tieAtTheNextStation
+pub tie-at-the-next-station-hold : Hold tieAtTheNextStation
 unfolding Hold block accepts advances tieAtTheNextStation
 tie-at-the-next-station-hold = after due-tick-not-due-in-hold (held 1, (held 2, (held 3, (held 4, (held 5, (held 6, (held 7, (held 8, (held 9, (held 10, (held 11, (held 12, (held 13, (held 14, (held 15, (held 16, (held 17, (held 18, (held 19, tt)))))))))))))))))))
 
