@@ -1,4 +1,4 @@
-// Document 01's worked cases, and those of document 02, (i) and (iii), made by the calls themselves, a line for each call. The stored output
+// Document 01's worked cases, and those of document 02, (i), (iii) and (v), made by the calls themselves, a line for each call. The stored output
 // is written by hand from the papers' figures, and no program made it. This one only makes the calls and writes: what it prints of a reply is
 // `replyLine` of the crate `trials`, of an image `explained` of the crate `image_text`, and of a table `planOutput` of the
 // crate `plan_model`.
@@ -222,6 +222,8 @@ fn counter_cases() {
     two_orders(x(6, 0), y(100, 5), 0);
     io::write_all(1, b"X due in 20 with rank 5, then Y due in 7 with rank 0\n");
     two_orders(x(20, 5), y(7, 0), 6);
+    io::write_all(1, b"X due in 20, then Y due in 7, both with rank 5\n");
+    two_orders(x(20, 5), y(7, 5), 6);
 }
 
 fn other_cases() {
