@@ -5,13 +5,15 @@
 #include "advance.h"
 #include "records.h"
 
-/* The turn of an order at its station: the place of its record and, unless it is in service, PLACES times its rank there and one. A station serves the order
- * with the smallest turn: the one in service; without it the one with the smallest rank, and of equal ranks the first record, which has the smaller ticket. */
+/* The turn of an order at its station: its rank there and one, its due tick and the place of its record, as the digits of one number; of an order in service
+ * the place alone. A station serves the order with the smallest turn: the one in service; without it the one with the smallest rank, of equal ranks the one
+ * that is due first, and of equal due ticks the first record, which has the smallest ticket. */
 #define PLACES 256
-#define NOBODY UINT32_MAX
+#define DUE_TICKS ((uint64_t)1 << 32)
+#define NOBODY UINT64_MAX
 
 /* Questions 2 to 4 and 13, after 1; and the smallest turn at each station. */
-static uint32_t ask(const uint8_t *image, size_t image_len, uint32_t serves[STATIONS])
+static uint32_t ask(const uint8_t *image, size_t image_len, uint64_t serves[STATIONS])
 {
     if (image_len != IMAGE_SIZE)
         return 2;
@@ -49,9 +51,9 @@ static uint32_t ask(const uint8_t *image, size_t image_len, uint32_t serves[STAT
             return 4;
 
         const uint8_t *entry = image + SERVICES_AT + SERVICE_SIZE * (station - 1);
-        uint32_t turn = k, *first = &serves[station - 1];
+        uint64_t turn = k, *first = &serves[station - 1];
         if (get4(entry + SERVED_AT) != ticket)
-            turn += PLACES * (record[RANKS_AT + station - 1] + 1u);
+            turn += PLACES * (due + DUE_TICKS * (record[RANKS_AT + station - 1] + 1u));
         *first = turn < *first ? turn : *first;
     }
     if ((next != 0 && before >= next) || largest(flaws) != 0 || !ranks_fit(ranks, n))
@@ -74,7 +76,7 @@ static uint32_t ask(const uint8_t *image, size_t image_len, uint32_t serves[STAT
 }
 
 /* One tick at station j + 1 for the order with this turn. Gives its record if it is out, or NULL. */
-static uint8_t *serve(uint8_t *image, uint32_t j, uint32_t turn)
+static uint8_t *serve(uint8_t *image, uint32_t j, uint64_t turn)
 {
     uint8_t *entry = image + SERVICES_AT + SERVICE_SIZE * j, *record = image + RECORDS_AT + RECORD_SIZE * (turn % PLACES);
     uint16_t left = turn < PLACES ? get2(entry + LEFT_AT) : get2(record + COSTS_AT + 2 * j);
@@ -98,7 +100,8 @@ static void take_out(uint8_t *image, uint8_t *record)
 
 uint32_t plain_advance(uint8_t *image, size_t image_len, uint8_t *reply, size_t reply_len)
 {
-    uint32_t serves[STATIONS], out = 0, clock = 0;
+    uint64_t serves[STATIONS];
+    uint32_t out = 0, clock = 0;
     if (reply_len != REPLY_SIZE)
         return 1;
     uint32_t number = ask(image, image_len, serves);

@@ -5,7 +5,8 @@
  * buffer, and must give the same number, reply and image, all bytes of it; and these must be what the simulator wrote.
  *
  * The first difference ends the program with status 1, and so do lists that show too little: each number of each call, done offers at every number of live
- * orders with which one more is accepted, done advances at every number of them, and orders out at every number but 0. */
+ * orders with which one more is accepted, done advances at every number of them, orders out at every number but 0, and starts in which equal ranks go by the
+ * due tick, and equal due ticks by the ticket, at every number from 2 on. */
 #include "contenders.h"
 #include "dispatcher.h"
 #include "lists.h"
@@ -14,8 +15,8 @@
 #include <stdlib.h>
 
 static unsigned long seen[CALLS][NUMBERS]; /* by number */
-/* Done offers, of a block or by format, done advances, orders out, by live orders before. */
-static unsigned long offers_at[ORDERS + 1], advances_at[ORDERS + 1], outs_at[ORDERS + 1];
+/* Done offers, of a block or by format, done advances, orders out, advances with a start by the due tick and by the ticket, by live orders before. */
+static unsigned long offers_at[ORDERS + 1], advances_at[ORDERS + 1], outs_at[ORDERS + 1], by_due_tick_at[ORDERS + 1], by_ticket_at[ORDERS + 1];
 
 /* The calls by one of the three. */
 static const struct contender {
@@ -67,6 +68,34 @@ static void make_call(const struct contender *by, const struct listed *l, const 
     }
 }
 
+/* Counts the advance if some idle station has two orders or more with its smallest rank: as a start by the due tick if one that is due before the first record
+ * of these goes first, and as one by the ticket if another is due at the same tick as the one that goes first. */
+static void count_ties(const uint8_t *image)
+{
+    int by_due_tick = 0, by_ticket = 0;
+    for (unsigned j = 0; j < image[STATION_COUNT_AT]; j++) {
+        const uint8_t *first = NULL, *nearest = NULL; /* with the smallest rank so far: the first record, and the first of those that are due first */
+        int others = 0;                               /* that are due at the same tick as the nearest */
+        for (unsigned k = 0; k < image[LIVE_COUNT_AT]; k++) {
+            const uint8_t *record = image + RECORDS_AT + RECORD_SIZE * k;
+            if (record[STATION_AT] != j + 1 || (first != NULL && record[RANKS_AT + j] > first[RANKS_AT + j]))
+                continue;
+            if (first == NULL || record[RANKS_AT + j] < first[RANKS_AT + j])
+                first = nearest = record, others = 0;
+            else if (get4(record + DUE_AT) < get4(nearest + DUE_AT))
+                nearest = record, others = 0;
+            else
+                others += get4(record + DUE_AT) == get4(nearest + DUE_AT);
+        }
+        if (get4(image + SERVICES_AT + SERVICE_SIZE * j + SERVED_AT) == 0) {
+            by_due_tick |= nearest != first;
+            by_ticket |= others > 0;
+        }
+    }
+    by_due_tick_at[image[LIVE_COUNT_AT]] += by_due_tick != 0;
+    by_ticket_at[image[LIVE_COUNT_AT]] += by_ticket != 0;
+}
+
 static void compare_call(const struct listed *l, struct bytes *image)
 {
     static struct outcome outcomes[CONTENDERS];
@@ -92,6 +121,7 @@ static void compare_call(const struct listed *l, struct bytes *image)
     if (library->number == 0 && l->call == ADVANCE) {
         advances_at[image->at[LIVE_COUNT_AT]]++;
         outs_at[image->at[LIVE_COUNT_AT]] += get4(library->reply.at + REPLY_TICKET_AT) != 0;
+        count_ties(image->at);
     }
     *image = library->image;
 }
@@ -132,6 +162,8 @@ int main(int argc, char **argv)
     lacking |= lacks("done offers", offers_at, 0, ORDERS - 1);
     lacking |= lacks("done advances", advances_at, 0, ORDERS);
     lacking |= lacks("orders out", outs_at, 1, ORDERS);
+    lacking |= lacks("advances in which equal ranks go by the due tick", by_due_tick_at, 2, ORDERS);
+    lacking |= lacks("advances in which equal due ticks go by the ticket", by_ticket_at, 2, ORDERS);
     if (lacking) {
         printf("the lists show too little: a number or a number of live orders is missing\n");
         return 1;

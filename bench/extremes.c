@@ -10,7 +10,7 @@ enum ends { MIDDLE, CLOCK_ENDED, NO_TICKET, ENDS };
 
 static const char *const spread_words[] = {"spread over the stations", "all at station 1", "all at the last station"};
 static const char *const serving_words[] = {"stations idle", "stations busy", "stations busy with 1 tick to go"};
-static const char *const rank_words[] = {"ranks falling", "ranks equal"};
+static const char *const rank_words[] = {"ranks falling", "ranks equal, due ticks falling"};
 static const char *const figure_words[] = {"small figures", "largest figures, no margin left"};
 static const char *const end_words[] = {"", ", clock at its end", ", no ticket left"};
 
@@ -34,7 +34,7 @@ static void make_image(struct extreme *e, int n, int live, enum spread spread, e
         struct order *o = &c.orders[i];
         uint16_t cost = figures == SMALL ? 100 : MAX_COST;
         o->ticket = end == NO_TICKET ? UINT32_MAX - (uint32_t)(live - 1 - i) : 1000 + (uint32_t)i;
-        o->due = end == CLOCK_ENDED ? LAST_TICK : c.clock + MAX_DUE_IN - (uint32_t)(live - i);
+        o->due = (end == CLOCK_ENDED ? LAST_TICK : c.clock + MAX_DUE_IN) - (uint32_t)(equal ? i : live - 1 - i);
         o->accepted = o->due - MAX_DUE_IN;
         o->sum = figures == SMALL ? 100 * (uint32_t)live : MAX_DUE_IN - (uint32_t)(n - 1) * MAX_COST;
         o->station = station_of(spread, i, live, n);

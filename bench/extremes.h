@@ -6,7 +6,7 @@
 #include "layout.h"
 
 struct extreme {
-    char what[160]; /* in words */
+    char what[180]; /* in words */
     uint8_t image[IMAGE_SIZE], order[BLOCK_SIZE];
     uint32_t format, due_in; /* the same order by its format, with its sheet */
     uint8_t rank, sheet[SHEET_SIZE];
@@ -15,9 +15,9 @@ struct extreme {
 typedef void visit(const struct extreme *extreme);
 
 /* Sound images: N 1 to 8; 0 to 32 live orders, spread over the stations, all at the first or all at the last; stations idle, all busy, or all with one tick
- * left (so that the first record of all goes out and the others move up); ranks equal, or such that each record is first so far; figures small, or as large
- * as they may be with no margin left; the clock and the tickets in the middle of their ranges, or at their ends. Each with an order that is in time by
- * itself, one that is late, and one that has something wrong. Gives how many they were. */
+ * left (so that the first record of all goes out and the others move up); each record first so far, by its rank or, where ranks are equal, by its due tick;
+ * figures small, or as large as they may be with no margin left; the clock and the tickets in the middle of their ranges, or at their ends. Each with an order
+ * that is in time by itself, one that is late, and one that has something wrong. Gives how many they were. */
 unsigned long each_sound(visit *visit);
 
 /* Full cabinets and others, each byte changed by itself in three ways. Most are not sound, and it is seen early or late. Gives how many they were. */

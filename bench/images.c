@@ -67,7 +67,7 @@ void counter_image(uint8_t *image, struct order_forms *order, int live)
     make_order(order, live);
 }
 
-void tick_image(uint8_t *image, int live, uint16_t left, uint16_t last_left)
+void tick_image(uint8_t *image, int live, uint16_t left, uint16_t last_left, int equal)
 {
     struct cabinet c;
     memset(&c, 0, sizeof c);
@@ -79,11 +79,11 @@ void tick_image(uint8_t *image, int live, uint16_t left, uint16_t last_left)
         struct order *o = &c.orders[i];
         o->ticket = 1000 + (uint32_t)i;
         o->accepted = c.clock - 1000 + (uint32_t)i;
-        o->due = o->accepted + MAX_DUE_IN;
+        o->due = o->accepted + MAX_DUE_IN - (equal ? 2 * (uint32_t)i : 0);
         o->sum = 200 * (uint32_t)live;
         o->station = (uint8_t)(STATIONS - STATIONS * i / live);
         for (int j = 0; j < STATIONS; j++) {
-            o->ranks[j] = (uint8_t)(37 * i + 11 * j);
+            o->ranks[j] = (uint8_t)(equal ? 7 : 37 * i + 11 * j);
             o->costs[j] = (uint16_t)(50 + (37 * i + 61 * j) % 151);
             o->maxima[j] = 200;
         }

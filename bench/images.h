@@ -22,7 +22,8 @@ void make_order(struct order_forms *order, int i);
 void counter_image(uint8_t *image, struct order_forms *order, int live);
 
 /* For advance, an image with so many live orders, as many at each station, the earlier ones further on. The stations are idle, or each serves the first of its
- * orders: stations 1 to 7 with `left` ticks to go, and station 8 with `last_left`. */
-void tick_image(uint8_t *image, int live, uint16_t left, uint16_t last_left);
+ * orders: stations 1 to 7 with `left` ticks to go, and station 8 with `last_left`. The ranks are mixed, or all equal: then each order is due before those of
+ * smaller tickets, so that the last of a station's records goes first. */
+void tick_image(uint8_t *image, int live, uint16_t left, uint16_t last_left, int equal);
 
 #endif

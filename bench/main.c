@@ -275,30 +275,40 @@ static void advance(void)
     static const struct {
         uint16_t left, last_left;
         const char *happens;
-        int out; /* whether an order is */
+        int out;   /* whether an order is */
+        int equal; /* whether the ranks are, so that the due ticks decide */
     } ticks[] = {
-        {40, 40, "8 in service, none leaves", 0},
-        {0, 0, "8 start", 0},
-        {1, 40, "8 in service, 7 go on", 0},
-        {1, 1, "8 leave, 1 of them is out", 1},
+        {40, 40, "8 in service, none leaves", 0, 0},
+        {0, 0, "8 start", 0, 0},
+        {0, 0, "8 start, ranks equal", 0, 1},
+        {1, 40, "8 in service, 7 go on", 0, 0},
+        {1, 1, "8 leave, 1 of them is out", 1, 0},
     };
 
-    tick_image(t.subjects[0].image, 0, 0, 0);
+    tick_image(t.subjects[0].image, 0, 0, 0, 0);
     strcpy(t.labels[0], "0, nothing");
     t.count = 1;
     for (int live = 8; live <= ORDERS; live *= 2)
-        for (int k = 0; k < 4; k++, t.count++) {
+        for (int k = 0; k < 5; k++) {
+            if (ticks[k].equal && live == STATIONS)
+                continue; /* one at each station */
             uint8_t *image = t.subjects[t.count].image, after[IMAGE_SIZE];
-            tick_image(image, live, ticks[k].left, ticks[k].last_left);
+            tick_image(image, live, ticks[k].left, ticks[k].last_left, ticks[k].equal);
             sprintf(t.labels[t.count], "%d, %s", live, ticks[k].happens);
             memcpy(after, image, IMAGE_SIZE);
             if (library_advance(after, NULL) != 0 || after[LIVE_COUNT_AT] != live - ticks[k].out) {
                 printf("advance, %s: %d live orders after it\n", t.labels[t.count], after[LIVE_COUNT_AT]);
                 exit(1);
             }
+            const uint8_t *last = image + RECORDS_AT + RECORD_SIZE * (live - 1); /* which is at station 1 */
+            if (ticks[k].equal && get4(after + SERVICES_AT + SERVED_AT) != get4(last + TICKET_AT)) {
+                printf("advance, %s: station 1 does not serve the order that is due first\n", t.labels[t.count]);
+                exit(1);
+            }
+            t.count++;
         }
     time_table(&t);
-    say_each(&t, 0, 5, 9, 0, 16, ORDERS);
+    say_each(&t, 0, 5, 10, 0, 16, ORDERS);
 }
 
 int main(int argc, char **argv)
