@@ -666,42 +666,103 @@ uint32_t dispatcher_offer_format(uint8_t *image, size_t image_len, uint32_t form
     return ordered_by_format(1, image, image_len, format, due_in, rank, sheet, sheet_len, reply, reply_len);
 }
 
-/* Of the orders that wait at a station: the one that goes first, or none. */
-static uint8_t *first_waiting(uint8_t *image, unsigned station)
+static uint32_t delay_sum(const uint8_t *r, unsigned n)
 {
-    uint8_t *best = NULL;
+    uint32_t sum = get4(r + SUM_AT);
+    for (unsigned j = 1; j < n; j++)
+        sum += get2(r + MAXIMUM_AT(j));
+    return sum;
+}
+
+/* Of two orders that wait at a station: whether the one with the larger ticket goes before the other, as the fault has it. */
+static int goes_before(const uint8_t *image, unsigned station, const uint8_t *r, const uint8_t *other)
+{
+    unsigned n = image[STATION_COUNT_AT], rank = r[RANK_AT(station)], other_rank = other[RANK_AT(station)];
+    uint32_t due = get4(r + DUE_AT), other_due = get4(other + DUE_AT), accepted = get4(r + ACCEPTED_AT), other_accepted = get4(other + ACCEPTED_AT);
+    uint32_t clock = get4(image + CLOCK_AT), ticket = get4(r + TICKET_AT), other_ticket = get4(other + TICKET_AT);
+    uint32_t cost = get2(r + COST_AT(station)), other_cost = get2(other + COST_AT(station)), sum = delay_sum(r, n), other_sum = delay_sum(other, n);
+    int tied = rank == other_rank, alike = tied && due == other_due;
+    int by_ticket = rank < other_rank, right = by_ticket || (tied && due < other_due);
+    switch (fault()) {
+    case 42: return right || (alike && station == 2); /* equal ranks and due ticks go by the larger ticket at station 2 */
+    case 44: return tied ? right : (int8_t)rank < (int8_t)other_rank; /* ranks are compared as signed bytes */
+    case 68: return right || (alike && station == 8); /* equal ranks and due ticks go by the larger ticket at station 8 */
+    case 69: return right || (alike && (int32_t)ticket < (int32_t)other_ticket); /* equal ranks and due ticks go by the ticket as a signed number */
+    case 152: return by_ticket; /* equal ranks go by the ticket alone */
+    case 153: return tied ? due > other_due : right; /* of equal ranks the later due tick goes first */
+    case 154: return due == other_due ? by_ticket : due < other_due; /* the due tick goes before the rank */
+    case 155: return tied ? due - accepted < other_due - other_accepted : right; /* equal ranks go by the due-in */
+    case 156: return tied ? (int32_t)due < (int32_t)other_due : right; /* equal ranks go by the due tick as a signed number */
+    case 157: return tied ? (due & 0xffff) < (other_due & 0xffff) : right; /* equal ranks go by the low half of the due tick */
+    case 158: return tied ? due >> 16 < other_due >> 16 : right; /* equal ranks go by the high half of the due tick */
+    case 159: return tied ? (int16_t)(due - other_due) < 0 : right; /* due ticks are compared by their difference in 16 bits */
+    case 160: return station == 1 ? right : by_ticket; /* the due tick is looked at at station 1 alone */
+    case 161: return station < n ? right : by_ticket; /* the due tick is not looked at at the last station */
+    case 162: return tied ? accepted < other_accepted : right; /* equal ranks go by the tick of the acceptance */
+    case 163: return tied ? accepted + sum < other_accepted + other_sum : right; /* equal ranks go by the tick at the end of the delay sum */
+    case 164: return tied ? due - accepted - sum < other_due - other_accepted - other_sum : right; /* equal ranks go by the margin */
+    case 165: return image[LIVE_COUNT_AT] > 16 ? by_ticket : right; /* while more than 16 are live, equal ranks go by the ticket alone */
+    case 166: return clock > 0 ? by_ticket : right; /* from tick 1 on equal ranks go by the ticket alone */
+    case 167: return due <= clock || other_due <= clock ? by_ticket : right; /* a due tick that has passed is not looked at */
+    case 168: return right || (alike && accepted > other_accepted); /* equal ranks and due ticks go by the smaller due-in */
+    case 169: return tied ? cost < other_cost : right; /* equal ranks go by the cost there */
+    case 170: return rank >> 1 == other_rank >> 1 ? due < other_due : right; /* ranks are compared without their lowest bit, and then due ticks */
+    case 171: return tied && rank == 255 ? 0 : right; /* equal ranks of 255 go by the ticket alone */
+    case 172: return r == image + RECORD(MAX_LIVE - 1) ? by_ticket : right; /* the due tick of the last of 32 records is not looked at */
+    case 173: return tied && r[RANK_AT(1)] != other[RANK_AT(1)] ? r[RANK_AT(1)] < other[RANK_AT(1)] : right; /* equal ranks go by the rank at station 1 first */
+    default: return right;
+    }
+}
+
+/* Of the orders that wait at a station: the one that goes first, as the fault has it, or none. */
+static uint8_t *goes_first(uint8_t *image, unsigned station)
+{
+    uint8_t *best = NULL, *first = NULL;
+    unsigned tied = 0; /* with the best, among those before */
     for (unsigned k = 0; k < image[LIVE_COUNT_AT]; k++) {
         uint8_t *r = record(image, k);
-        if (r[STATION_AT] == station && get4(r + TICKET_AT) != get4(entry(image, station) + SERVED_AT) &&
-            (best == NULL || r[RANK_AT(station)] < best[RANK_AT(station)]))
-            best = r;
+        if (r[STATION_AT] != station || get4(r + TICKET_AT) == get4(entry(image, station) + SERVED_AT))
+            continue;
+        first = first == NULL ? r : first;
+        int equal = best != NULL && r[RANK_AT(station)] == best[RANK_AT(station)];
+        int goes = best == NULL || goes_before(image, station, r, best);
+        if (fault() == 174 && equal) /* the due tick that others are compared with is that of the first who waits */
+            goes = get4(r + DUE_AT) < get4(first + DUE_AT);
+        if (fault() == 175 && equal && tied > 1) /* of equal ranks the first two are looked at */
+            goes = 0;
+        tied = equal ? tied + 1 : goes ? 1 : tied;
+        best = goes ? r : best;
     }
     return best;
 }
 
-/* The same, if the station is idle and another waits there with the same rank, which is not the last. */
-static uint8_t *first_of_tied(uint8_t *image, unsigned station)
+/* Gives those that wait at idle stations such ranks that the one starts who goes first as the fault has it; and the ranks that they had, after the advance. */
+static void put_ranks(uint8_t *image)
 {
-    uint8_t *best = image[STATION_COUNT_AT] < station || get4(entry(image, station) + SERVED_AT) != 0 ? NULL : first_waiting(image, station);
-    for (unsigned k = 0; best != NULL && k < image[LIVE_COUNT_AT]; k++) {
-        uint8_t *r = record(image, k);
-        if (r != best && r[STATION_AT] == station && r[RANK_AT(station)] == best[RANK_AT(station)] && best[RANK_AT(station)] < 255)
-            return best;
+    for (unsigned j = 1; j <= image[STATION_COUNT_AT]; j++) {
+        const uint8_t *first = get4(entry(image, j) + SERVED_AT) == 0 ? goes_first(image, j) : NULL;
+        for (unsigned k = 0; first != NULL && k < image[LIVE_COUNT_AT]; k++)
+            if (record(image, k)[STATION_AT] == j)
+                record(image, k)[RANK_AT(j)] = record(image, k) != first;
     }
-    return NULL;
 }
 
-/* An advance in which that order lets another go first. */
-static uint32_t passed_over(uint8_t *trial, unsigned station, uint8_t *order, uint8_t *image, uint8_t *reply)
+static void put_ranks_back(uint8_t *image, uint8_t *before)
 {
-    uint32_t ticket = get4(order + TICKET_AT);
-    order[RANK_AT(station)]++;
-    right_advance(trial, IMAGE_SIZE, reply, REPLY_SIZE);
-    for (unsigned k = 0; k < trial[LIVE_COUNT_AT]; k++)
-        if (get4(record(trial, k) + TICKET_AT) == ticket)
-            record(trial, k)[RANK_AT(station)]--;
-    memcpy(image, trial, IMAGE_SIZE);
-    return 0;
+    for (unsigned k = 0, m = 0; k < image[LIVE_COUNT_AT]; k++) {
+        while (get4(record(before, m) + TICKET_AT) != get4(record(image, k) + TICKET_AT))
+            m++;
+        memcpy(record(image, k) + RANKS_AT, record(before, m) + RANKS_AT, MAX_STATIONS);
+    }
+}
+
+/* The order in service at a station, or none. */
+static uint8_t *served(uint8_t *image, unsigned station)
+{
+    for (unsigned k = 0; get4(entry(image, station) + SERVED_AT) != 0 && k < image[LIVE_COUNT_AT]; k++)
+        if (get4(record(image, k) + TICKET_AT) == get4(entry(image, station) + SERVED_AT))
+            return record(image, k);
+    return NULL;
 }
 
 uint32_t dispatcher_advance(uint8_t *image, size_t image_len, uint8_t *reply, size_t reply_len)
@@ -720,43 +781,25 @@ uint32_t dispatcher_advance(uint8_t *image, size_t image_len, uint8_t *reply, si
     memcpy(before, image, IMAGE_SIZE);
     memcpy(trial, image, IMAGE_SIZE);
     unsigned n = image[STATION_COUNT_AT];
-    uint8_t *tied;
     int sound = right_advance(trial, IMAGE_SIZE, reply, REPLY_SIZE) == 0;
     memcpy(trial, image, IMAGE_SIZE);
-    switch (sound ? fault() : 0) {
-    case 41: /* the clock goes no further than 3,999,999,999 */
-        if (get4(image + CLOCK_AT) == LAST_TICK - 1)
-            return declined(13, reply);
-        break;
-    case 42: /* equal ranks go by the larger ticket at station 2 */
-        if ((tied = first_of_tied(trial, 2)) != NULL)
-            return passed_over(trial, 2, tied, image, reply);
-        break;
-    case 68: /* equal ranks go by the larger ticket at station 8 */
-        if ((tied = first_of_tied(trial, 8)) != NULL)
-            return passed_over(trial, 8, tied, image, reply);
-        break;
-    case 69: /* equal ranks go by the ticket as a signed number */
-        if ((tied = first_of_tied(trial, 1)) != NULL && get4(tied + TICKET_AT) < 0x80000000 &&
-            get4(record(trial, trial[LIVE_COUNT_AT] - 1u) + TICKET_AT) >= 0x80000000)
-            return passed_over(trial, 1, tied, image, reply);
-        break;
-    case 43: /* a better rank stops the order in service */
-        for (unsigned j = 1; j <= n; j++)
-            for (unsigned k = 0; k < trial[LIVE_COUNT_AT]; k++)
-                if (get4(entry(trial, j) + SERVED_AT) != 0 && get4(record(trial, k) + TICKET_AT) == get4(entry(trial, j) + SERVED_AT) &&
-                    first_waiting(trial, j) != NULL && first_waiting(trial, j)[RANK_AT(j)] < record(trial, k)[RANK_AT(j)])
-                    memset(entry(trial, j), 0, SERVICE_SIZE);
-        break;
-    case 44: /* ranks are compared as signed bytes */
-        for (unsigned k = 0; k < trial[LIVE_COUNT_AT]; k++)
-            for (unsigned j = 1; j <= n; j++)
-                record(trial, k)[RANK_AT(j)] ^= 0x80;
-        break;
-    default:
-        break;
+    if (fault() == 41 && sound && get4(image + CLOCK_AT) == LAST_TICK - 1) /* the clock goes no further than 3,999,999,999 */
+        return declined(13, reply);
+    for (unsigned j = 1; sound && j <= n; j++) {
+        const uint8_t *in_service = served(trial, j), *waits = goes_first(trial, j);
+        if (in_service == NULL || waits == NULL)
+            continue;
+        int equal = waits[RANK_AT(j)] == in_service[RANK_AT(j)], due_earlier = get4(waits + DUE_AT) < get4(in_service + DUE_AT);
+        if (fault() == 43 && waits[RANK_AT(j)] < in_service[RANK_AT(j)]) /* a better rank stops the order in service */
+            memset(entry(trial, j), 0, SERVICE_SIZE);
+        if (fault() == 176 && equal && due_earlier) /* an equal rank that is due earlier stops the order in service */
+            memset(entry(trial, j), 0, SERVICE_SIZE);
     }
+    if (sound)
+        put_ranks(trial);
     uint32_t number = right_advance(trial, IMAGE_SIZE, reply, REPLY_SIZE);
+    if (sound)
+        put_ranks_back(trial, before);
     if ((number == 3 || number == 4) && overlooked(trial))
         number = right_advance(trial, IMAGE_SIZE, reply, REPLY_SIZE);
     uint32_t out = get4(reply + REPLY_TICKET_AT);
@@ -765,11 +808,6 @@ uint32_t dispatcher_advance(uint8_t *image, size_t image_len, uint8_t *reply, si
     if (fault() == 52 && number == 13 && before[LIVE_COUNT_AT] != 0) /* 13 comes only while no order is live */
         number = declined(0, reply);
     switch (number == 0 ? fault() : 0) {
-    case 44:
-        for (unsigned k = 0; k < trial[LIVE_COUNT_AT]; k++)
-            for (unsigned j = 1; j <= n; j++)
-                record(trial, k)[RANK_AT(j)] ^= 0x80;
-        break;
     case 45: /* no start at station 8 while station 1 serves */
         if (n == 8 && get4(entry(before, 8) + SERVED_AT) == 0 && get4(entry(trial, 8) + SERVED_AT) != 0 && get4(entry(before, 1) + SERVED_AT) != 0)
             memset(entry(trial, 8), 0, SERVICE_SIZE);

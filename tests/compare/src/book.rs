@@ -31,6 +31,9 @@ pub fn list(clerk: &Clerk, kind: Kind, name: &str, seed: u64, calls: usize) {
     let mut other = Rng::new(!seed);
     let by_format = matches!(kind, Kind::LongBook) || other.one_in(2);
     if by_format { profile.format = 0; }
+    // An order is out exactly at the end of its delay sum if it comes after all of its company, at every station without a gap. Costs of 1 leave no gap,
+    // and in one list of eight all costs are 1, so that enough orders show it.
+    if matches!(kind, Kind::Book) && other.one_in(8) { profile.cost = 1; }
     let n = rng.range(1, MAX_STATIONS as u64) as u32;
     let mut maker = Maker { level: level(), rng, profile };
     let mut machine = clerk.clone();

@@ -52,6 +52,11 @@ pub struct Counts {
     pub book_formats: u64,
     /// starts, by N and station
     pub starts: [[u64; MAX_STATIONS]; MAX_STATIONS],
+    /// those in which an order goes before a smaller ticket of its rank, since it is due earlier: by N and station, and by live orders
+    pub due_starts: [[u64; MAX_STATIONS]; MAX_STATIONS],
+    pub due_live: Live,
+    /// those in lists that the run book reads
+    pub book_due_starts: u64,
     /// orders out, by N
     pub out: [u64; MAX_STATIONS],
     /// lists and their calls, by kind
@@ -129,7 +134,7 @@ impl Counts {
                 self.book_formats += u64::from(number == 0 && c == 4 && matches!(kind, Kind::Book | Kind::LongBook));
                 self.format_order((*format, *due_in, *rank, sheet), before, number, reply);
             }
-            _ => self.advance(before, number, reply),
+            _ => self.advance(kind, before, number, reply),
         }
     }
 
@@ -228,7 +233,7 @@ impl Counts {
         }
     }
 
-    fn advance(&mut self, before: &[u8], number: u32, reply: &[u8]) {
+    fn advance(&mut self, kind: Kind, before: &[u8], number: u32, reply: &[u8]) {
         let (n, live, clock) = (usize::from(before[STATION_COUNT_AT]), usize::from(before[LIVE_COUNT_AT]), get32(before, CLOCK_AT));
         if number != 0 {
             if live > 0 { self.edge("13, orders live"); }
@@ -239,34 +244,66 @@ impl Counts {
         if get32(reply, REPLY_TICKET_AT) != 0 { self.out[n - 1] += 1; }
         let mut leaving = 0;
         for j in 0..n {
-            // Who waits at the station, best first: how many have the smallest rank, and whether the smallest ticket has it.
+            // Who is in service at the station, and who of those that wait there goes first: records are in the order of tickets.
             let serves = get32(before, service(j) + SERVED_AT);
-            let (mut best, mut tied, mut first, mut cost) = (u16::from(u8::MAX) + 1, 0, 0, 0);
-            for k in 0..live {
-                let r = &before[record(k)..record(k + 1)];
-                if usize::from(r[STATION_AT]) != j + 1 || get32(r, TICKET_AT) == serves { continue; }
-                let rank = u16::from(r[RANKS_AT + j]);
-                if first == 0 { first = rank + 1; }
-                if rank < best { (best, tied, cost) = (rank, 1, get16(r, COSTS_AT + 2 * j)); } else if rank == best { tied += 1; }
-            }
-            let waiting = tied > 0;
-            if serves == 0 && waiting {
-                self.starts[n - 1][j] += 1;
-                if tied > 1 { self.edge("start, ranks tie"); }
-                if first > best + 1 { self.edge("start, by rank before a smaller ticket"); }
-                if cost == 1 { leaving += 1; }
+            let ticket = |k: usize| get32(before, record(k) + TICKET_AT);
+            let rank = |k: usize| before[record(k) + RANKS_AT + j];
+            let due = |k: usize| get32(before, record(k) + DUE_AT);
+            let waits = |k: &usize| usize::from(before[record(*k) + STATION_AT]) == j + 1 && ticket(*k) != serves;
+            let mut others: Vec<usize> = (0..live).filter(waits).collect();
+            let first = others.iter().copied().min_by_key(|k| (rank(*k), due(*k)));
+            others.retain(|k| Some(*k) != first);
+            if let (Some(first), 0) = (first, serves) {
+                if get16(before, record(first) + COSTS_AT + 2 * j) == 1 { leaving += 1; }
+                self.start(kind, before, (n, live, j), first, &others);
             }
             if serves != 0 {
                 if get16(before, service(j) + LEFT_AT) == 1 { leaving += 1; }
-                let worse = |k: usize| get32(before, record(k) + TICKET_AT) == serves && u16::from(before[record(k) + RANKS_AT + j]) > best;
-                if waiting && (0..live).any(worse) {
-                    self.edge("in service, a better rank waits");
+                let served = (0..live).find(|k| ticket(*k) == serves);
+                if let (Some(served), Some(first)) = (served, first) {
+                    if rank(first) < rank(served) { self.edge("in service, a better rank waits"); }
+                    if rank(first) == rank(served) && due(first) < due(served) { self.edge("in service, an equal rank waits that is due earlier"); }
                 }
             }
         }
         if leaving > 1 { self.edge("two or more leave their stations"); }
         if leaving == MAX_STATIONS { self.edge("all of eight leave their stations"); }
         if live == MAX_LIVE && get32(reply, REPLY_TICKET_AT) != 0 { self.edge("out, 32 live before it"); }
+    }
+
+    /// A start at station j, counted from 0, by the order of record `first`, where these others wait.
+    fn start(&mut self, kind: Kind, before: &[u8], (n, live, j): (usize, usize, usize), first: usize, others: &[usize]) {
+        let ticket = |k: usize| get32(before, record(k) + TICKET_AT);
+        let due = |k: usize| get32(before, record(k) + DUE_AT);
+        let due_in = |k: usize| due(k) - get32(before, record(k) + ACCEPTED_AT);
+        let low_half = |k: usize| due(k) & 0xffff;
+        // Of another order: whether its rank is that of the first, and then whether it is due at the same tick.
+        let equal = |k: usize| before[record(k) + RANKS_AT + j] == before[record(first) + RANKS_AT + j];
+        let alike = |k: usize| equal(k) && due(k) == due(first);
+        let any = |seen: &dyn Fn(usize) -> bool| others.iter().any(|k| seen(*k));
+        let before_it = others.iter().filter(|k| equal(**k) && **k < first).count();
+        self.starts[n - 1][j] += 1;
+        for (name, seen) in [
+            ("start, by rank before a smaller ticket", any(&|k| !equal(k) && k < first)),
+            ("start, by rank before an earlier due tick", any(&|k| !equal(k) && due(k) < due(first))),
+            ("start, ranks tie", any(&|k| equal(k))),
+            ("start, ranks of sixteen tie", others.iter().filter(|k| equal(**k)).count() >= 15),
+            ("start, by due tick before a smaller ticket", before_it > 0),
+            ("start, by due tick before two smaller tickets", before_it > 1),
+            ("start, by due tick before a smaller due-in", any(&|k| equal(k) && !alike(k) && due_in(k) < due_in(first))),
+            ("start, by due tick before a smaller low half", any(&|k| equal(k) && low_half(k) < low_half(first))),
+            ("start, by due tick, on both sides of 2,147,483,648", any(&|k| equal(k) && (due(k) ^ due(first)) >> 31 == 1)),
+            ("start, ranks and due ticks tie", any(&|k| alike(k))),
+            ("start, by ticket before a smaller due-in", any(&|k| alike(k) && due_in(k) < due_in(first))),
+            ("start, by ticket, on both sides of 2,147,483,648", any(&|k| alike(k) && (ticket(k) ^ ticket(first)) >> 31 == 1)),
+        ] {
+            if seen { self.edge(name); }
+        }
+        if before_it > 0 {
+            self.due_starts[n - 1][j] += 1;
+            self.due_live.0[live] += 1;
+            self.book_due_starts += u64::from(matches!(kind, Kind::Book | Kind::LongBook));
+        }
     }
 
     pub fn add(&mut self, o: &Counts) {
@@ -276,13 +313,18 @@ impl Counts {
             sum(&mut self.live[c].0, &o.live[c].0);
             sum(&mut self.formats[c], &o.formats[c]);
         }
-        for n in 0..MAX_STATIONS { sum(&mut self.starts[n], &o.starts[n]); }
+        for n in 0..MAX_STATIONS {
+            sum(&mut self.starts[n], &o.starts[n]);
+            sum(&mut self.due_starts[n], &o.due_starts[n]);
+        }
+        sum(&mut self.due_live.0, &o.due_live.0);
         sum(&mut self.out, &o.out);
         sum(&mut self.lists, &o.lists);
         sum(&mut self.calls, &o.calls);
         sum(&mut self.images, &o.images);
         sum(&mut self.alone, &o.alone);
         self.book_formats += o.book_formats;
+        self.book_due_starts += o.book_due_starts;
         if self.bytes.is_empty() { self.bytes.clone_from(&o.bytes); } else { sum(&mut self.bytes, &o.bytes); }
         for (wrong, count) in &o.lengths { *self.lengths.entry(*wrong).or_default() += count; }
         for (name, count) in &o.edges { *self.edges.entry(name).or_default() += count; }
@@ -302,11 +344,15 @@ impl Counts {
         for (c, call) in CALLS.iter().enumerate().skip(1) {
             for (live, count) in self.live[c].0.iter().enumerate() { say(format!("{call} with {live} live"), *count); }
         }
+        for (live, count) in self.due_live.0.iter().enumerate() { say(format!("start by due tick with {live} live"), *count); }
         for (c, call) in CALLS.iter().enumerate().filter(|(_, call)| call.ends_with("_format")) {
             for (k, count) in self.formats[c].iter().enumerate() { say(format!("{call} done with format {}", k + 1), *count); }
         }
         for n in 0..MAX_STATIONS {
-            for j in 0..=n { say(format!("start at station {} of {}", j + 1, n + 1), self.starts[n][j]); }
+            for j in 0..=n {
+                say(format!("start at station {} of {}", j + 1, n + 1), self.starts[n][j]);
+                say(format!("start by due tick at station {} of {}", j + 1, n + 1), self.due_starts[n][j]);
+            }
             say(format!("out with {} stations", n + 1), self.out[n]);
         }
         for (k, kind) in KINDS.iter().enumerate() {
@@ -324,6 +370,7 @@ impl Counts {
         let b = &self.book;
         for (name, count) in [
             ("calls", b.calls), ("ticks", b.ticks), ("accepted", b.accepted), ("accepted by format", self.book_formats), ("out", b.out),
+            ("starts by due tick", self.book_due_starts),
             ("most live", b.most_live), ("largest company", b.largest_company),
             ("out exactly at its sum", b.tight), ("out exactly at its sum, with company", b.tight_with_company),
             ("out later than without the last maximum", b.later_than_less[0]), ("out later than without later company", b.later_than_less[1]),
@@ -361,7 +408,7 @@ impl Counts {
         let b = &self.book;
         line("run book", vec![
             format!("{} calls", b.calls), format!("{} ticks", b.ticks), format!("{} accepted", b.accepted),
-            format!("{} of these by format", self.book_formats), format!("{} out", b.out),
+            format!("{} of these by format", self.book_formats), format!("{} started by due tick", self.book_due_starts), format!("{} out", b.out),
             format!("{} of those exactly at the sum with others in company", b.tight_with_company),
             format!("{} and {} later than by a smaller sum", b.later_than_less[0], b.later_than_less[1]),
             format!("largest company {}", b.largest_company), format!("most live {}", b.most_live),
