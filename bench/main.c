@@ -132,6 +132,13 @@ static double timed(const void *of, int runner, int k)
     return took / ROUND_CALLS;
 }
 
+/* In bench/beside another tree's library stands in the place of gcc's C. Its rules may be others, so that it is asked for the same number alone. */
+#ifdef BESIDE
+#define ALSO_BYTES(runner) ((runner) != GCC)
+#else
+#define ALSO_BYTES(runner) 1
+#endif
+
 /* All three give this number, and leave the same image and the same reply. */
 static void compare(const struct table *t, const uint8_t *image, const struct order_forms *order, uint32_t number, const char *label)
 {
@@ -142,7 +149,8 @@ static void compare(const struct table *t, const uint8_t *image, const struct or
         memset(reply, 0, REPLY_SIZE);
         uint32_t given = t->works[runner](images[runner], order);
         memcpy(replies[runner], reply, REPLY_SIZE);
-        if (given == number && memcmp(images[runner], images[0], IMAGE_SIZE) == 0 && memcmp(replies[runner], replies[0], REPLY_SIZE) == 0)
+        int same = memcmp(images[runner], images[0], IMAGE_SIZE) == 0 && memcmp(replies[runner], replies[0], REPLY_SIZE) == 0;
+        if (given == number && (same || !ALSO_BYTES(runner)))
             continue;
         printf("%s, %s: number %lu by the %s, and not %lu; or another image or reply than the library's\n", t->title, label, (unsigned long)given,
                names[runner], (unsigned long)number);
