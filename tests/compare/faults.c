@@ -5,6 +5,7 @@
  * tests/compare/faults, which prints it. */
 #include "../../firmware/bytes.h"
 #include "../layout.h"
+#include "../starts.h"
 
 #include <stdio.h>
 #include <stdlib.h>
@@ -715,13 +716,13 @@ static int goes_before(const uint8_t *image, unsigned station, const uint8_t *r,
 }
 
 /* Of the orders that wait at a station: the one that goes first, as the fault has it, or none. */
-static uint8_t *goes_first(uint8_t *image, unsigned station)
+static const uint8_t *goes_first(const uint8_t *image, unsigned station)
 {
-    uint8_t *best = NULL, *first = NULL;
+    const uint8_t *best = NULL, *first = NULL;
     unsigned tied = 0; /* with the best, among those before */
     for (unsigned k = 0; k < image[LIVE_COUNT_AT]; k++) {
-        uint8_t *r = record(image, k);
-        if (r[STATION_AT] != station || get4(r + TICKET_AT) == get4(entry(image, station) + SERVED_AT))
+        const uint8_t *r = image + RECORD(k);
+        if (r[STATION_AT] != station || get4(r + TICKET_AT) == get4(image + SERVICE(station - 1) + SERVED_AT))
             continue;
         first = first == NULL ? r : first;
         int equal = best != NULL && r[RANK_AT(station)] == best[RANK_AT(station)];
@@ -734,26 +735,6 @@ static uint8_t *goes_first(uint8_t *image, unsigned station)
         best = goes ? r : best;
     }
     return best;
-}
-
-/* Gives those that wait at idle stations such ranks that the one starts who goes first as the fault has it; and the ranks that they had, after the advance. */
-static void put_ranks(uint8_t *image)
-{
-    for (unsigned j = 1; j <= image[STATION_COUNT_AT]; j++) {
-        const uint8_t *first = get4(entry(image, j) + SERVED_AT) == 0 ? goes_first(image, j) : NULL;
-        for (unsigned k = 0; first != NULL && k < image[LIVE_COUNT_AT]; k++)
-            if (record(image, k)[STATION_AT] == j)
-                record(image, k)[RANK_AT(j)] = record(image, k) != first;
-    }
-}
-
-static void put_ranks_back(uint8_t *image, uint8_t *before)
-{
-    for (unsigned k = 0, m = 0; k < image[LIVE_COUNT_AT]; k++) {
-        while (get4(record(before, m) + TICKET_AT) != get4(record(image, k) + TICKET_AT))
-            m++;
-        memcpy(record(image, k) + RANKS_AT, record(before, m) + RANKS_AT, MAX_STATIONS);
-    }
 }
 
 /* The order in service at a station, or none. */
@@ -796,7 +777,7 @@ uint32_t dispatcher_advance(uint8_t *image, size_t image_len, uint8_t *reply, si
             memset(entry(trial, j), 0, SERVICE_SIZE);
     }
     if (sound)
-        put_ranks(trial);
+        put_ranks(trial, goes_first);
     uint32_t number = right_advance(trial, IMAGE_SIZE, reply, REPLY_SIZE);
     if (sound)
         put_ranks_back(trial, before);

@@ -72,6 +72,47 @@ def drawn(rng, n):
 README = ["N 2", order(20, (0, 0), (2, 3)), order(6, (5, 5), (1, 2)), order(7, (5, 5), (1, 2)), *[T] * 7]
 
 
+# Orders of one rank, as due-in and costs, and ticks: stations, and the calls. Document 02, (v): "Equal ranks should go by the earlier due tick, then by the
+# smaller ticket."
+TIES = {
+    "later-ticket-first": (2, [(20, (2, 3)), (7, (1, 2)), *[T] * 7]),
+    # While the first is in service, two wait that are both due at 21, though the later one has the smaller due-in.
+    "equal-due-ticks": (1, [(90, [3]), T, (20, [2]), T, (19, [1]), *[T] * 6]),
+    # While the first is in service, three wait that are due at 21, 22 and 20, with due-in 20, 19 and 17.
+    "due-tick-not-due-in": (1, [(90, [4]), T, (20, [1]), T, T, (19, [2]), (17, [3]), *[T] * 8]),
+    # Due-in 0 stands for 9,000 ticks: beside one tick more, one tick less, and 9,000 that are written out.
+    "default-due-in": (1, [(DEFAULT_DUE_IN + 1, [2]), (0, [1]), (DEFAULT_DUE_IN - 1, [3]), (DEFAULT_DUE_IN, [4]), *[T] * 11]),
+    "falling": (3, [(900 - k, (1, 2, 1)) for k in range(8)] + [T] * 30),
+    "rising": (3, [(900 + k, (1, 2, 1)) for k in range(8)] + [T] * 30),
+    "one-a-tick": (2, [call for k in range(12) for call in ((400 - 7 * k, (3, 2)), T)] + [T] * 40),
+    # Orders k and 16 + k are due at the same tick.
+    "full": (1, [(900 - k % (MAX_LIVE // 2), [1]) for k in range(MAX_LIVE)] + [T] * MAX_LIVE),
+    "eight-stations": (8, [(2000 - 13 * (k * 7 % 20), [1 + (k + j) % 5 for j in range(8)]) for k in range(20)] + [T] * 140),
+}
+
+
+def of_equal_ranks(n, calls, rule=None):
+    """The log of such calls, all of whose orders are accepted: as it is; or as a cabinet writes it that has another rule for orders of one rank, the smaller
+    figure first. That is what is recorded where their ranks are such that they go so; then their ranks are made equal."""
+    orders, clock = [], 0
+    for call in calls:
+        if call is T:
+            clock += 1
+        else:
+            orders.append({"ticket": len(orders) + 1, "accepted": clock, "due_in": call[0] or DEFAULT_DUE_IN, "due": clock + (call[0] or DEFAULT_DUE_IN)})
+    ranks = [sorted(orders, key=rule).index(o) for o in orders] if rule else [5] * len(orders)
+    left = iter(ranks)
+    lines = recorded(f"N {n}", *[T if call is T else order(call[0], [next(left)] * n, call[1]) for call in calls])
+    if any(numbers(lines)):
+        sys.exit(f"logs.py: an order of a tie is declined: {numbers(lines)}")
+    return [order_of_rank_5(line, n) if line.startswith("O") else line for line in lines]
+
+
+def order_of_rank_5(line, n):
+    words = line.split(" ")
+    return " ".join(words[:2] + ["5"] * n + words[2 + n:])
+
+
 def good(rng):
     for n in range(1, MAX_STATIONS + 1):
         keep(f"drawn-{n}", drawn(rng, n))
@@ -92,7 +133,7 @@ def good(rng):
     least = DEFAULT_DUE_IN - MAX_COST
     shows("default-due-in", recorded("N 2", order(0, (5, 5), (least, MAX_COST)), T), 0)
     shows("default-due-in-late", recorded("N 2", order(0, (5, 5), (least + 1, MAX_COST)), order(18000, (5, 5), (least + 1, MAX_COST)), T), 0, 11)
-    # Ranks decide, and of equal ranks the smaller ticket.
+    # Ranks decide, and of equal ranks and due ticks the smaller ticket.
     keep("ranks", recorded("N 2", *[order(900, (rank, 255 - rank), (2, 3)) for rank in (200, 0, 255, 0, 7, 200)], *[T] * 25))
     # An order that begins and ends in the same tick, at each station; one that waits while another is served.
     keep("costs-1", recorded("N 8", order(60, [0] * 8, [1] * 8), *[T] * 9))
@@ -104,6 +145,10 @@ def good(rng):
     keep("shares-in-3", recorded("N 2", order(9, (0, 0), (1, 2)), *[T] * 3))
     keep("shares-in-7", recorded("N 3", order(9, (0, 0, 0), (1, 2, 3)), *[T] * 7))
     keep("share-whole", recorded("N 1", order(60, [0], [9]), *[T] * 9))
+    for name, (n, calls) in TIES.items():
+        keep(f"ties-{name}", of_equal_ranks(n, calls))
+    keep("ties-next-station", recorded("N 2", order(30, (0, 0), (1, 4)), order(30, (1, 5), (1, 1)), order(20, (2, 5), (1, 2)), *[T] * 8))
+    keep("ties-rank-first", recorded("N 2", order(7, (5, 5), (1, 2)), order(20, (0, 0), (2, 3)), *[T] * 7))
     return made["readme"].decode().splitlines()
 
 
@@ -136,6 +181,23 @@ def differing(lines):
                        ("twice", changed(changed(lines, 3, number, "12"), 9, 1, "2")), ("after-nothing", ["N 1", "T 1"]),
                        ("order-after-nothing", ["N 1", "O 9 0 1 0 2"]), ("every-line", ["N 1"] + ["T 1"] * 5)):
         keep("differs-" + name, log)
+    # What a cabinet has written that does not go by the due tick, and of equal ones by the ticket.
+    for name, tie, rule in (
+            *((f"by-ticket-{tie}", tie, lambda o: o["ticket"]) for tie in ("later-ticket-first", "falling", "one-a-tick", "full", "eight-stations")),
+            ("by-ticket-default-due-in", "default-due-in", lambda o: o["ticket"]),
+            ("by-due-in", "due-tick-not-due-in", lambda o: (o["due_in"], o["ticket"])),
+            ("by-due-in-then", "equal-due-ticks", lambda o: (o["due"], o["due_in"], o["ticket"])),
+            ("by-larger-ticket-then", "full", lambda o: (o["due"], -o["ticket"])),
+            ("by-later-due-tick", "rising", lambda o: (-o["due"], o["ticket"])),
+            ("by-later-due-tick-eight", "eight-stations", lambda o: (-o["due"], o["ticket"]))):
+        n, calls = TIES[tie]
+        log = of_equal_ranks(n, calls, rule)
+        keep("differs-ties-" + name, log)
+        # The log up to the line that differs, and to the line before it: that one is the same, and its busy ticks are those of the rule.
+        right = of_equal_ranks(n, calls)
+        first = next(k for k, line in enumerate(log) if line != right[k])
+        keep("differs-ties-" + name + "-last", log[:first + 1])
+        keep("ties-" + name + "-before", log[:first])
 
 
 # The fields of `readme`, by a name, with their line, their word and their bits.

@@ -9,6 +9,7 @@
 #define _POSIX_C_SOURCE 200809L
 #include "../../firmware/bytes.h"
 #include "../layout.h"
+#include "../starts.h"
 
 #include <fcntl.h>
 #include <inttypes.h>
@@ -225,11 +226,51 @@ static int serves(const uint8_t *image, unsigned station)
     return get4(image + SERVICE(station - 1) + SERVED_AT) != 0;
 }
 
+/* Of two orders that wait at a station: whether the one with the larger ticket goes before the other. */
+static int goes_before(unsigned station, const uint8_t *order, const uint8_t *other)
+{
+    unsigned rank = order[RANKS_AT + station - 1], other_rank = other[RANKS_AT + station - 1];
+    uint32_t due = get4(order + DUE_AT), other_due = get4(other + DUE_AT);
+    if (fault(95) && due != other_due) /* the due tick goes before the rank */
+        return due < other_due;
+    if (rank != other_rank)
+        return rank < other_rank;
+    if (fault(96)) /* equal ranks go by the ticket alone */
+        return 0;
+    if (fault(97)) /* of equal ranks the later due tick goes first */
+        return due > other_due;
+    if (fault(98)) /* equal ranks go by the due-in */
+        return due - get4(order + ACCEPTED_AT) < other_due - get4(other + ACCEPTED_AT);
+    if (fault(99) && due == other_due) /* equal ranks and due ticks go by the larger ticket */
+        return 1;
+    if (fault(100) && due == other_due) /* equal ranks and due ticks go by the due-in */
+        return get4(order + ACCEPTED_AT) > get4(other + ACCEPTED_AT);
+    if (fault(101) && station > 1) /* after station 1 equal ranks go by the ticket alone */
+        return 0;
+    if (fault(102) && r.image[LIVE_COUNT_AT] == MAX_LIVE) /* while 32 are live, equal ranks go by the ticket alone */
+        return 0;
+    return due < other_due;
+}
+
+static const uint8_t *goes_first(const uint8_t *image, unsigned station)
+{
+    const uint8_t *first = NULL;
+    for (unsigned k = 0; k < image[LIVE_COUNT_AT]; k++)
+        if (image[RECORD(k) + STATION_AT] == station && (first == NULL || goes_before(station, image + RECORD(k), first)))
+            first = image + RECORD(k);
+    return first;
+}
+
 static void advance(uint64_t recorded)
 {
     uint8_t before[IMAGE_SIZE];
+    const int picks = chosen >= 95; /* the fault is one of who starts */
     memcpy(before, r.image, sizeof before);
+    if (picks)
+        put_ranks(r.image, goes_first);
     uint32_t number = dispatcher_advance(r.image, sizeof r.image, r.reply, sizeof r.reply);
+    if (picks)
+        put_ranks_back(r.image, before);
     int any = 0;
     if (number == 0 && !(fault(76) && r.accepted == 0)) /* the ticks before the first order do not count */
         r.ticks++;
