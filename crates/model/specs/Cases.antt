@@ -8,8 +8,8 @@ use Rattle.model.specs.Lists.{concat, upward}
 use Rattle.model.specs.Bytes.{twoBytes, fourBytes}
 use Rattle.model.specs.Layout.{imageSize, version, versionAt, stationCountAt, liveCountAt, headerZeroAt, clockAt, nextAt, servicesAt, serviceSize, servedAt, leftAt, serviceZeroAt, recordsAt, recordSize, ticketAt, acceptedAt, dueAt, sumAt, stationAt, stationZeroAt, ranksAt, costsAt, maximaAt, recordZeroAt, blockSize, replySize}
 use Rattle.model.specs.Questions.{zeros}
-use Rattle.model.specs.Calls.{Call, opening, quoting, offering, advancing}
-use Rattle.model.specs.Table.{Row, opens, gives, replies, illSized, altered, written, holding, stations, serving, outs, bounds, dues, inStep, lent}
+use Rattle.model.specs.Calls.{opening, quoting, offering, advancing}
+use Rattle.model.specs.Table.{Row, opens, gives, replies, illSized, altered, written, holding, stations, serving, outs, bounds, dues, inStep}
 
 -- Eight numbers of two bytes each; those not named are zero.
 unfoldable pub halves : List ℕ → List ℕ

@@ -10,7 +10,7 @@ use lib.ListN.{length}
 use borrow.Author.Tests.{ne-eqb}
 use Rattle.model.specs.declared.Order.{Order}
 use Rattle.model.specs.declared.Service.{Service}
-use Rattle.model.specs.Lists.{at, numbered}
+use Rattle.model.specs.Lists.{numbered}
 use Rattle.model.specs.State.{State, idle}
 use Rattle.model.specs.Tick.{View, view, precedes, first, entryOf, startAt, startEach, starts}
 use Rattle.schedule.specs.Valid.{_∈_, serving, Waits, Busy, Fit, Valid, Ready}
