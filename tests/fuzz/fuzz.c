@@ -168,6 +168,8 @@ struct result {
 
 /* What has been seen, over all inputs. */
 static unsigned long made, inputs, seen[CALLS][NUMBERS], formats_done[MAX_FORMAT + 1], offers_at[MAX_LIVE + 1], advances_at[MAX_LIVE + 1], outs, moves, starts;
+/* Starts, by station: before a smaller ticket of the same rank, and before a larger one of the same rank and due tick. */
+static unsigned long by_due_tick[MAX_STATIONS + 1], by_ticket[MAX_STATIONS + 1];
 static const char *input_name = "the input";
 static unsigned long made_before;
 
@@ -267,6 +269,23 @@ static void ask(const struct side *side, struct result *its)
     memcpy(its->reply, reply_lent.lent, reply_length);
 }
 
+/* A start by the order of record k. */
+static void count_start(const uint8_t *before, int k)
+{
+    const uint8_t *r = before + RECORD(k);
+    int station = r[STATION_AT], earlier = 0, alike = 0;
+    for (int m = 0; m < before[LIVE_COUNT_AT]; m++) {
+        const uint8_t *other = before + RECORD(m);
+        if (other[STATION_AT] != station || other[RANKS_AT + station - 1] != r[RANKS_AT + station - 1])
+            continue;
+        earlier |= m < k;
+        alike |= m > k && get4(other + DUE_AT) == get4(r + DUE_AT);
+    }
+    starts++;
+    by_due_tick[station] += earlier;
+    by_ticket[station] += alike;
+}
+
 /* What a done advance did: at each station a start, and orders that went on. */
 static void count_tick(const uint8_t *before, const uint8_t *after)
 {
@@ -276,7 +295,7 @@ static void count_tick(const uint8_t *before, const uint8_t *after)
         const uint8_t *r = before + RECORD(k);
         int served = SERVICE(r[STATION_AT] - 1) + SERVED_AT;
         if (get4(before + served) == 0 && get4(after + served) == get4(r + TICKET_AT))
-            starts++;
+            count_start(before, k);
     }
     if (after[LIVE_COUNT_AT] < live)
         outs++;
@@ -652,7 +671,8 @@ static int missing(int is_missing, const char *text, unsigned long value)
     return is_missing;
 }
 
-/* Every number of every call, and what makes a long run: orders accepted at any number of live orders, ticks in which orders start, go on and are out. */
+/* Every number of every call, and what makes a long run: orders accepted at any number of live orders, ticks in which orders start, go on and are out; and
+ * starts by the due tick and by the ticket, at every station. */
 static int complete(void)
 {
     int lacks = 0;
@@ -665,6 +685,10 @@ static int complete(void)
         lacks |= missing(advances_at[k] == 0, "done advance with live orders", k);
     for (unsigned long k = 1; k <= MAX_FORMAT; k++)
         lacks |= missing(formats_done[k] == 0, "done offer of format", k);
+    for (unsigned long j = 1; j <= MAX_STATIONS; j++) {
+        lacks |= missing(by_due_tick[j] == 0, "start by the due tick at station", j);
+        lacks |= missing(by_ticket[j] == 0, "start by the ticket, of equal due ticks, at station", j);
+    }
     lacks |= missing(starts < 100, "100 starts but", starts);
     lacks |= missing(moves < 100, "100 orders that go on but", moves);
     lacks |= missing(outs < 100, "100 orders out but", outs);
@@ -703,7 +727,13 @@ int main(int argc, char **argv)
                 printf(" %d %lux", k, seen[c][k]);
         printf("\n");
     }
-    printf("%lu starts, %lu orders that go on, %lu orders out; %lu of %d marks\n", starts, moves, outs, marks, MARKS);
+    unsigned long nearer = 0, alike = 0;
+    for (int j = 1; j <= MAX_STATIONS; j++) {
+        nearer += by_due_tick[j];
+        alike += by_ticket[j];
+    }
+    printf("%lu starts, %lu of them by the due tick and %lu by the ticket, %lu orders that go on, %lu orders out; %lu of %d marks\n", starts, nearer, alike,
+           moves, outs, marks, MARKS);
     return first == 2 && !complete() ? 1 : 0;
 }
 

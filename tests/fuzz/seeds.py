@@ -163,6 +163,46 @@ def long_runs():
     yield 'all-out', head(FRESH, 2, ([1, 1], [2, 2])) + by_row(OFFER, times=MAX_LIVE) + advance(90)
 
 
+def ties():
+    """Orders of equal ranks, which go by their due ticks, and by their tickets where these are equal: due ticks that fall, rise, are equal, and by turns;
+    accepted at one tick and at several; at one station, at two, where they wait again, and at eight."""
+    one = head(FRESH, 1, ([5], [2]), ([4], [3]))
+    two = head(FRESH, 2, ([5, 5], [3, 2]), ([5, 5], [1, 4]))
+    rows = {'fall': [900 - 9 * k for k in range(9)], 'rise': [900 + 9 * k for k in range(9)], 'alike': [900] * 9, 'turn': [900 + 5 * k % 7 for k in range(9)]}
+    for name, due_ins in rows.items():
+        yield f'ties-{name}', one + b''.join(by_row(OFFER, 0, due_in) for due_in in due_ins) + advance(20)
+        yield f'ties-{name}-two', two + b''.join(by_row(OFFER, k % 2, due_in) for k, due_in in enumerate(due_ins)) + advance(35)
+    # The due-in falls by two a tick: each is due before the one that came before it. By one: all are due together.
+    later = head(FRESH, 1, ([5], [4]), ([5], [1]))
+    for name, fall in (('earlier', 2), ('together', 1), ('later', 0)):
+        calls = b''.join(by_row(OFFER, int(k > 0), 300 - fall * k) + advance() for k in range(12))
+        yield f'ties-came-later-due-{name}', later + calls + advance(9)
+    # Due-in 0 stands for 9,000 ticks: beside one tick more, one less, and as many.
+    yield 'ties-default', one + b''.join(by_row(OFFER, 0, d) for d in (DEFAULT_DUE_IN + 1, 0, DEFAULT_DUE_IN - 1, DEFAULT_DUE_IN)) + advance(9)
+    yield 'ties-far-apart', one + b''.join(by_row(OFFER, 0, d) for d in (MAX_DUE_IN, 900, 42000, 2000)) + advance(9)
+    # The rank goes first, whoever is due first; and equal ranks at station 2, after others at station 1.
+    yield 'ties-ranks', one + by_row(OFFER, 0, 300) + by_row(OFFER, 1, 900) + by_row(OFFER, 0, 200) + by_row(OFFER, 1, 800) + advance(11)
+    yield 'ties-next-station', (head(FRESH, 2, ([0, 0], [1, 4]), ([1, 5], [1, 1]), ([2, 5], [1, 2])) + by_row(OFFER, 0, 30) + by_row(OFFER, 1, 30) +
+                                by_row(OFFER, 2, 20) + advance(9))
+    yield 'ties-formats', (head(FRESH, 2, ([5, 5], [3, 2])) +
+                           b''.join(by_format(OFFER_FORMAT, A4, speed=99, rank=5, due_in=700 - 11 * (k % 5)) + by_row(OFFER, 0, 690 + k) for k in range(5)) +
+                           advance(60))
+    yield 'ties-full', one + b''.join(by_row(OFFER, 0, 2000 - 3 * k) for k in range(MAX_LIVE)) + advance(70)
+    yield 'ties-full-pairs', one + b''.join(by_row(OFFER, 0, 2000 - 3 * (k % 16)) for k in range(MAX_LIVE)) + advance(70)
+    # Described: 32 live orders of one rank at 8 idle stations, accepted at several ticks; in the middle of the clock; with due ticks on both sides of its half,
+    # whose low halves begin anew there; near its end; with due ticks that have passed; and all due at one tick.
+    orders = [(k % 3, 0, k % 8 + 1, 0, 20 * (k % 4), 3 * (k * 5 % 7), 20 + 9 * (k * 3 % 11)) for k in range(MAX_LIVE)]
+    passed = [(gap, row, station, above, more, 1500 if k % 3 else 0, room) for k, (gap, row, station, above, more, _, room) in enumerate(orders)]
+    alike = [(0, 0, k % 8 + 1, 0, 40, 0, 100) for k in range(MAX_LIVE)]
+    idle = [(0, 0)] * 8
+    for name, clock, live in (('described', (5000, 3), orders), ('half', (2**31 - 130, 3), orders), ('near-last-tick', (2000, 2), orders),
+                              ('passed', (5000, 3), passed), ('described-alike', (5000, 3), alike)):
+        yield f'ties-{name}', head(DESCRIBED, 8, ([255] * 8, [3 + j for j in range(8)])) + described(clock, (7, 1), live, idle) + advance(60)
+    # All are due at one tick, and the first has ticket 5, the others the last tickets of all.
+    yield 'ties-last-tickets', (head(DESCRIBED | PATCHES, 1, ([9], [3])) + described((500, 3), (0, 2), alike[:9], idle[:1]) + b'\x00' +
+                                patch(9, record(0) + layout.TICKET_AT, 4, 5) + advance(30))
+
+
 def deep():
     """Images that are described: 32 live orders, the last ticks, the last tickets."""
     rows8 = [(list(range(8)), [9 + j for j in range(8)]), ([1] * 8, [40] * 8), ([0] * 8, [1] * 8)]
@@ -372,7 +412,7 @@ def main():
     simulator, folder, word_file = sys.argv[1:]
     os.makedirs(folder, exist_ok=True)
     names = set()
-    for made in (counter(), long_runs(), deep(), damaged(), forms(), formats(), of_the_simulator(simulator)):
+    for made in (counter(), long_runs(), ties(), deep(), damaged(), forms(), formats(), of_the_simulator(simulator)):
         for name, text in made:
             assert name not in names and len(text) < 4096
             names.add(name)

@@ -1,7 +1,7 @@
 /* What the program soak is to print: the calls are those of the dispatcher that this is linked with, and the gate links it with the second simulator's.
  * It draws the same calls as crates/soak by arithmetic of its own, makes them, and prints the same rows: cabinet, calls, clock, live orders, orders
  * accepted and out, calls declined by 6, 7, 10, 11 and 12, and a digest of every reply and of the image after every call. At the end it says on standard
- * error how often each call gave each number. */
+ * error how often each call gave each number, and how many starts were by the due tick. */
 #include "../../firmware/bytes.h"
 #include "../layout.h"
 
@@ -69,10 +69,30 @@ static uint32_t fold(uint32_t digest, const uint8_t *bytes, size_t length)
 
 enum { QUOTE, OFFER, ADVANCE };
 static const char *const names[] = {"quote", "offer", "advance"};
-static uint32_t given[3][15]; /* how often, over all cabinets */
+static uint32_t given[3][15], nearer; /* how often, over all cabinets; and starts by the due tick */
 
 static uint8_t image[IMAGE_SIZE], reply[REPLY_SIZE], block[BLOCK_SIZE];
 static uint32_t seed, calls, accepted, out, declined[15], digest;
+
+/* Starts in the next tick, if it passes, of an order that is due before another of its rank with a smaller ticket. */
+static uint32_t starts_by_due_tick(void)
+{
+    uint32_t count = 0;
+    for (unsigned j = 0; j < image[STATION_COUNT_AT]; j++) {
+        const uint8_t *smallest = NULL, *nearest = NULL; /* of those with the smallest rank: by ticket, and by due tick */
+        for (unsigned k = 0; k < image[LIVE_COUNT_AT] && get4(image + SERVICE(j) + SERVED_AT) == 0; k++) {
+            const uint8_t *r = image + RECORD(k);
+            if (r[STATION_AT] != j + 1)
+                continue;
+            if (smallest == NULL || r[RANKS_AT + j] < smallest[RANKS_AT + j])
+                smallest = nearest = r;
+            else if (r[RANKS_AT + j] == smallest[RANKS_AT + j] && get4(r + DUE_AT) < get4(nearest + DUE_AT))
+                nearest = r;
+        }
+        count += nearest != smallest;
+    }
+    return count;
+}
 
 static void call(uint32_t n)
 {
@@ -80,7 +100,9 @@ static void call(uint32_t n)
     int which = kind < advances ? ADVANCE : kind == advances ? QUOTE : OFFER;
     seed = step(drawn);
     if (which == ADVANCE) {
+        uint32_t by_due_tick = starts_by_due_tick();
         number = dispatcher_advance(image, sizeof image, reply, sizeof reply);
+        nearer += number == 0 ? by_due_tick : 0;
         out += number == 0 && get4(reply + REPLY_TICKET_AT) != 0;
     } else {
         draw_order(block, seed, n);
@@ -125,5 +147,6 @@ int main(void)
         for (int number = 0; number < 15; number++)
             if (given[which][number])
                 fprintf(stderr, "%s %d: %" PRIu32 "\n", names[which], number, given[which][number]);
+    fprintf(stderr, "start by due tick: %" PRIu32 "\n", nearer);
     return fflush(stdout) == 0 ? 0 : 1;
 }
