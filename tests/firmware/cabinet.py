@@ -46,13 +46,25 @@ class Image:
         return lines + [f"order {o['ticket']} due {o['due']} station {o['station']}" for o in self.orders]
 
 
+def waiting(image, j):
+    """Who waits at the station of place j if it is idle, in the order in which they go: document 01's smallest rank; document 02's earlier due tick, then the
+    smaller ticket."""
+    return sorted((o["ranks"][j], o["due"], o["ticket"]) for o in image.orders if o["station"] == j + 1 and image.serving[j][0] == 0)
+
+
+def starts_by_due_tick(image):
+    """At how many stations the one who starts goes before a smaller ticket of the same rank."""
+    queues = [waiting(image, j) for j in range(image.n)]
+    return sum(any(rank == queue[0][0] and ticket < queue[0][2] for rank, _, ticket in queue) for queue in queues)
+
+
 def advance_lines(before, after):
-    """What is told of an advance: the starts by the rule of document 01's tick, from the image before it alone, and who was live and is so no longer."""
+    """What is told of an advance: the starts, from the image before it alone, and who was live and is so no longer."""
     lines = []
-    for j, (ticket, _) in enumerate(before.serving):
-        waiting = [(o["ranks"][j], o["ticket"]) for o in before.orders if o["station"] == j + 1]
-        if ticket == 0 and waiting:
-            lines.append(f"tick {before.clock} station {j + 1} starts ticket {min(waiting)[1]}")
+    for j in range(before.n):
+        queue = waiting(before, j)
+        if queue:
+            lines.append(f"tick {before.clock} station {j + 1} starts ticket {queue[0][2]}")
     out = [ticket for ticket in before.tickets() if ticket not in after.tickets()]
     return lines + [f"tick {after.clock} ticket {ticket} is out" for ticket in out]
 

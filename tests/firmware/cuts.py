@@ -29,7 +29,7 @@ import subprocess
 import sys
 
 from cabinet import (LEVEL, LOG_FOLDER, LONG_SIDES, Image, Runner, Verdicts, advance_lines, at_level, call, check, layout, least, mended, order_line, sheet,
-                     whole_lines)
+                     starts_by_due_tick, whole_lines)
 
 SEED = 7318
 STATIONS = 3
@@ -241,6 +241,7 @@ class Plain:
             if word == "wait":
                 for at in self.stores[k]:
                     before, after = self.images[at - 1], self.images[at]
+                    counts["start by due tick"] = counts.get("start by due tick", 0) + starts_by_due_tick(before)
                     out = [ticket for ticket in before.tickets() if ticket not in after.tickets()]
                     reply = layout.reply(0, out[0] if out else 0, after.clock, 0)
                     lines.append(f"advance {zeros} -> 0 {reply.hex()} {fnv(after.data):016x}")
@@ -262,7 +263,7 @@ class Plain:
             file.write("\n".join(lines) + "\n")
         said = subprocess.run(at_level(simulator, "replay", path), capture_output=True, text=True)
         check(said.returncode == 0 and said.stdout == f"{len(lines) - 1} calls agree\n", "the second simulator:", said.stdout, said.stderr)
-        wanted = {"offer 0": 6, "quote 0": 1, "offer 11": 1, "offer 12": 1, "offer 6": 1, "quote 7": 1, "not understood": 3}
+        wanted = {"offer 0": 6, "quote 0": 1, "offer 11": 1, "offer 12": 1, "offer 6": 1, "quote 7": 1, "not understood": 3, "start by due tick": 2}
         for name, count in {**wanted, "offer_format 0": 4, "quote_format 0": 1, "offer_format 11": 1, "offer_format 12": 1}.items():
             check(counts.get(name, 0) >= count, "the list shows too little:", name, counts.get(name, 0))
         return len(lines) - 1
