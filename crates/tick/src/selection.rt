@@ -13,12 +13,13 @@ ghost use Rattle.tick.specs.Selection as defined;
 use model::Order;
 use model::Service;
 
-// The order that would start at a station: its ticket, its due tick, and its cost and rank there; zeros for nobody.
+// The order that would start at a station: its ticket, its due tick, and its cost and rank there; zeros for nobody. The rank
+// has two bytes so that no byte of a `Candidate` is padding, and an array of nobodies is a fill.
 pub struct Candidate {
     pub ticket: u32,
     pub due: u32,
     pub left: u16,
-    pub rank: u8,
+    pub rank: u16,
 }
 
 // Whether a candidate goes before another: the rule of the queue, here alone. Neither the later due tick of equal ranks nor
@@ -53,7 +54,7 @@ fn candidate_at(o: Order, i: usize) -> Candidate
         ticket: o.ticket,
         due: o.due,
         left: o.costs[i],
-        rank: o.ranks[i],
+        rank: o.ranks[i] as u16,
     }
 }
 

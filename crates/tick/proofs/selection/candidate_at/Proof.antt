@@ -15,9 +15,12 @@ element-copy-out-t9 c = search needs
 element-copy-out-t12 : tie.Need-element-copy-out-t12
 element-copy-out-t12 c = search needs
 
+cast-t13 : tie.Need-cast-t13
+cast-t13 c = search needs
+
 returns : tie.Need-returns
 unfolding candidateOf view
 returns c = refl
 
 pub candidate-at-spec : {M : Type 1} → statement M
-candidate-at-spec = tie.close (tie.spec mul-t6 element-copy-out-t9 element-copy-out-t12 returns)
+candidate-at-spec = tie.close (tie.spec mul-t6 element-copy-out-t9 element-copy-out-t12 cast-t13 returns)
