@@ -62,7 +62,7 @@ def disassembled(listing):
             function.targets[function.code[-1][0]] = match[2]
         elif match := re.match(r"\s+([0-9a-f]+):\t(\S+)\s*(.*)$", line):
             operation, operands = match[2], match[3]
-            if operation in ("rep", "repz", "repnz", "lock", "bnd", "notrack", "data16", "cs"):  # prefixes
+            while operation in ("rep", "repz", "repnz", "lock", "bnd", "notrack", "data16", "cs"):  # prefixes, of which padding has up to five
                 operation, _, operands = operands.partition(" ")
             function.code.append((int(match[1], 16), operation, operands.strip()))
     if not functions:

@@ -50,6 +50,12 @@ calls_leaf:                     # bound 152
         ret
 jumps_to_leaf:                  # bound 136
         jmp     leaf_below@PLT
+skips_padding:                  # bound 8
+        jmp     1f
+        # data16 data16 data16 data16 cs nopw 0x0(%rax,%rax,1)
+        .byte   0x66, 0x66, 0x66, 0x66, 0x2e, 0x66, 0x0f, 0x1f, 0x84, 0, 0, 0, 0, 0
+        1:
+        ret
 too_far:                        # refused: a byte 136 below the stack pointer
         mov     %rdi, -136(%rsp)
         ret
