@@ -21,7 +21,7 @@ DEFINED = re.compile(r"^(?:unfoldable|abbrev) pub (" + NAME + r") ?(?:\{[^{}\n]*
 QUIET = re.compile(r'"(?:[^"\\\n]|\\.)*"|(?<![^\s(){}.;,@"«»])--[^\n]*|\{-.*?-\}', re.S)
 WORD = re.compile(r'[^\s(){}.;,@"«»\x60]+')
 SPAN = re.compile(r"\x60[^\x60\n]*\x60")
-RUST = re.compile(r"""//[^\n]*|b?"(?:\\.|[^"\\])*"|b?'(?:\\.|[^'\\])'|[^"'/b]+|.""", re.S)
+RUST = re.compile(r"""//[^\n]*|"(?:\\.|[^"\\])*"|'(?:\\.|[^'\\])'|[^\s"'/]+|.""", re.S)
 # Words of the library that a lemma's name may join to another function's.
 WORDS = "length map take drop set sets append nil cons get_or replicate sum reverse filter head tail mem min max cond".split()
 HEADS = WORDS + "upward concat at all only numbered decode encode".split()
@@ -169,7 +169,7 @@ class Names:
             it = m[0]
             if it.startswith("//"):
                 out.append(self.spans(it, turn))
-            elif it[0] in "\"'" or re.match(r"b[\"']", it):
+            elif it[0] in "\"'":
                 out.append(it)
             else:
                 out.append(WORD.sub(turns, it))

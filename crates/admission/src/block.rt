@@ -2,7 +2,7 @@
 ghost use Rattle.std.specs.Prelude.{◌≡◌, cond, ◌&&◌, ◌<◌, length};
 ghost use Rattle.model.specs.Limits.{default_due_in};
 ghost use Rattle.model.specs.Lists.{is_zero};
-ghost use Rattle.model.specs.Layout.{blockSize};
+ghost use Rattle.model.specs.Layout.{block_size};
 ghost use Rattle.model.specs.Soundness.{costs_in_range, zero_beyond};
 ghost use Rattle.model.specs.Admission.{block_of, due_of};
 
@@ -13,7 +13,7 @@ use model::limits::DEFAULT_DUE_IN;
 
 // What a block says. Neither the due-in read from the ranks nor ranks read from the costs meet the promise.
 pub fn block_of(order: &[u8]) -> Block
-    requires { length order.now ≡ blockSize }
+    requires { length order.now ≡ block_size }
     ensures { result ≡ block_of order.now }
 {
     let ranks = eight_bytes_at(order, BLOCK_RANKS_AT);

@@ -3,7 +3,7 @@ ghost use Rattle.std.specs.Prelude.{◌≡◌, [], ◌∷◌, ◌+◌, ◌<◌, 
 ghost use Rattle.model.specs.declared.Order as order;
 ghost use Rattle.model.specs.Limits.{max_live};
 ghost use Rattle.model.specs.Bytes.{bits32};
-ghost use Rattle.model.specs.DelayBound.{boundTick};
+ghost use Rattle.model.specs.DelayBound.{bound_tick};
 ghost use Rattle.model.specs.DelayBound as delay;
 ghost use Rattle.model.specs.Admission.{smallest};
 ghost use Rattle.schedule.specs.Valid.{◌∈◌};
@@ -18,7 +18,7 @@ use soundness::row_limits::{Limits, counted_total};
 // the place of the acceptance tick meets the promise.
 pub fn bound_tick(l: Limits, o: Order) -> u32
     requires { Made l × MarginFits l.n o }
-    ensures { result ≡ boundTick l.n o }
+    ensures { result ≡ bound_tick l.n o }
 {
     let maxima = o.maxima;
     o.accepted + (o.sum + counted_total(l, maxima))

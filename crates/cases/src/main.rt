@@ -2,6 +2,8 @@
 // is written by hand from the papers' figures, and no program made it. This one only makes the calls and writes: what it prints of a reply is
 // `reply_line` of the crate `trials`, of an image `explained` of the crate `image_text`, and of a table `plan_output` of the
 // crate `plan_model`.
+#![tactic(auto)]
+
 ghost use Rattle.std.specs.Prelude.{◌≤◌, length};
 
 use dispatcher::advance::dispatcher_advance;

@@ -1,5 +1,5 @@
 -- The interference sets of a history: the costs of those entries whose tickets are in a list, when an entry joins and when entries move on.
-use mathlib.Core.Path.{◌≡◌, refl, ap, ◌∙◌}
+use mathlib.Core.Path.{◌≡◌, refl, ap, sym, ◌∙◌, subst}
 use mathlib.Core.Logic.{◌⊎◌, inl, inr}
 use mathlib.Core.Bool.{Bool, true, false}
 use mathlib.Core.List.Memᴰ
@@ -87,6 +87,11 @@ costs_own p (x ∷ xs) r = go (costs_own p xs r.1) (test (p x))
     beyond : (y : ℕ) → y ∈ tickets → x.ticket ≡ y → ⊥
     beyond y m e = let w = Memᴰ.of_map (λ (e : Entry). e.ticket) (only p xs) m in omega (arith, r.0 w.0 (only_in p xs w.1).0, w.2)
 
+    own_costs : List Entry → Type 0
+    own_costs ys = costs_in (map (λ (e : Entry). e.ticket) ys) (x ∷ xs) ≡ map costs_of ys
+
     go : costs_in tickets xs ≡ map costs_of (only p xs) → (p x ≡ true) ⊎ (p x ≡ false) → costs_in (map (λ (e : Entry). e.ticket) (only p (x ∷ xs))) (x ∷ xs) ≡ map costs_of (only p (x ∷ xs))
-    go ih (inl e) = rw (e, has_first tickets x.ticket) (ap {B = List (List ℕ)} (λ l. costs_of x ∷ l) (costs_other x.ticket tickets xs (λ y m q. omega (arith, r.0 y m)) ∙ ih))
-    go ih (inr e) = rw (e, has_none tickets x.ticket beyond) ih
+    go ih (inl e) =
+        subst own_costs (sym (only_yes p x xs e))
+        (rw (has_first tickets x.ticket) (ap {B = List (List ℕ)} (λ l. costs_of x ∷ l) (costs_other x.ticket tickets xs (λ y m q. omega (arith, r.0 y m)) ∙ ih)))
+    go ih (inr e) = subst own_costs (sym (only_no p x xs e)) (rw (has_none tickets x.ticket beyond) ih)

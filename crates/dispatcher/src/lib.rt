@@ -2,6 +2,8 @@
 // number first, and only then writes: the reply, and the image if it is done. Open's image, and header and entries after a tick,
 // are written from here; an acceptance by `admission::acceptance` and the records after a tick by `tick::leaving`, which know the
 // bytes of the lent image, too.
+#![tactic(auto)]
+
 pub mod replies; // the bytes of a reply, and what a decline leaves of it
 pub mod offer_parts; // quote and offer by their parts
 pub mod format_parts; // what is asked of an order by format

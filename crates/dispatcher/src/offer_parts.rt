@@ -2,7 +2,7 @@
 // stands for an order by format. The C interface joins them.
 ghost use Rattle.std.specs.Prelude.{◌≡◌, [], ◌∷◌, ◌++◌};
 ghost use Rattle.model.specs.Questions.{first_no};
-ghost use Rattle.model.specs.Admission.{blockLengthQuestion};
+ghost use Rattle.model.specs.Admission.{block_length_question};
 ghost use Rattle.model.specs.Calls.{reply_question, image_questions};
 ghost use Rattle.image_laws.specs.Usable.{Usable};
 ghost use Rattle.dispatcher.specs.Gives.{Gives};
@@ -22,7 +22,7 @@ use soundness::questions::Answer;
 // of the image's header, 11 and 12 of the block at the state. An order block that is a byte short passed over does not meet the
 // promise.
 pub fn first_number(image: &[u8], order: &[u8], reply: &[u8]) -> u32
-    ensures { result ≡ first_no (reply_question reply.now ∷ image_questions image.now ++ (blockLengthQuestion order.now ∷ [])) }
+    ensures { result ≡ first_no (reply_question reply.now ∷ image_questions image.now ++ (block_length_question order.now ∷ [])) }
 {
     let number = soundness::questions::number_to(image, reply);
     if number != 0 {

@@ -1,6 +1,6 @@
 // "Open takes 1, 2, 14"; "open gives zeros and a fresh image (clock 0, next ticket 1)".
 ghost use Rattle.std.specs.Prelude.{◌≡◌};
-ghost use Rattle.model.specs.Calls.{openNumber, open_call};
+ghost use Rattle.model.specs.Calls.{open_number, open_call};
 ghost use Rattle.soundness.specs.Questions.{number_of};
 ghost use Rattle.dispatcher.specs.Gives.{Gives};
 
@@ -10,7 +10,7 @@ use model::limits::MAX_STATIONS;
 use soundness::questions::Answer;
 
 fn open_answer(image: &[u8], stations: u32, reply: &[u8]) -> Answer
-    ensures { number_of result ≡ openNumber image.now stations reply.now }
+    ensures { number_of result ≡ open_number image.now stations reply.now }
 {
     if reply.len() != REPLY_SIZE {
         return Answer::ReplyLength;

@@ -1,5 +1,7 @@
 // Reads an image from standard input and writes to standard output what there is to say of it. It changes nothing. What it
 // writes of the bytes that it read is `explained` of the crate `image_text`.
+#![tactic(auto)]
+
 use image::layout::IMAGE_SIZE;
 
 // One byte more than an image has, so that a longer input is seen to be longer.

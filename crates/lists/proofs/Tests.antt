@@ -22,9 +22,9 @@ pub and_false : (a : Bool) → (a && false) ≡ false
 and_false true = refl
 and_false false = refl
 
-pub or_false : (a : Bool) → (a || false) ≡ a
-or_false true = refl
-or_false false = refl
+pub or-false : (a : Bool) → (a || false) ≡ a
+or-false true = refl
+or-false false = refl
 
 pub and_assoc : (a b c : Bool) → (a && b && c) ≡ (a && (b && c))
 and_assoc true b c = refl
@@ -77,7 +77,7 @@ module _ {A : Type 0} (test : A → Bool) where
 
   pub any_more : (l : List A) (x : A) → any test (l ++ (x ∷ [])) ≡ (any test l || test x)
   unfolding any
-  any_more [] x = or_false (test x)
+  any_more [] x = or-false (test x)
   any_more (y ∷ l) x = rw (any_more l x) (sym (or_assoc (test y) (any test l) (test x)))
 
   -- Rows end to end, one row more.

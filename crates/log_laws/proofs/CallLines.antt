@@ -2,7 +2,7 @@
 -- no longer counted. So what is printed after any lines is what their forms and their calls say, by going down the lines.
 use mathlib.Core.Path.{◌≡◌, refl, sym, ap, ◌∙◌}
 use mathlib.Core.Logic.{◌⊎◌, inl, inr}
-use mathlib.Core.Bool.{Bool, true, false, cond, not, ◌||◌, or_true, true≢false}
+use mathlib.Core.Bool.{Bool, true, false, cond, not, ◌||◌, or-true, true≢false}
 use mathlib.Core.List.{List, [], ◌∷◌, ◌++◌, map, foldl}
 use Prim.Native.Nat.{ℕ, zero, suc, ◌+◌, ◌≤◌, ◌<◌}
 use native.Mathlib.Numerals.{add-one}
@@ -92,7 +92,7 @@ pub refused_stays : (s : Ran) (lines : List (List ℕ)) (none : Bool) (k : ℕ) 
 unfolding shown settled
 refused_stays s lines none k some e =
     let other : is_zero k ≡ false = ne_eqb k 0 (λ z. omega arith) in
-    rw (settled_stays s (rw (e, other, or_true)) lines, e, other)
+    rw (settled_stays s (rw (e, other, or-true)) lines, e, other)
 
 -- ---- a state at line k of a log of n stations
 pub record AtLine (n k : ℕ) (r : Rerun) : Type 0 where

@@ -1,7 +1,7 @@
 -- The three lines of a log. What is written of a station count or a call has its form and is read back; a line of the form is the one written from what it
 -- says; and such a line is short. By the laws of a letter and decimals, and by the places of an order's values.
 use mathlib.Core.Path.{◌≡◌, refl, sym, ◌∙◌}
-use mathlib.Core.Bool.{true, false, cond, or_true, or_false}
+use mathlib.Core.Bool.{true, false, cond, or-true, or-false}
 use mathlib.Core.List.{List, [], ◌∷◌, ◌++◌}
 use Prim.Native.Nat.{ℕ, zero, suc, ◌+◌, ◌*◌, ◌≤◌, ◌<◌}
 use native.Mathlib.Omega.{arith}
@@ -140,7 +140,7 @@ unfolding is_call is_offer is_advance call_bytes all
 call_written n (offered due_in ranks costs number ticket) fit =
     rw (form_written (ascii "O") (order_values due_in ranks costs number ticket) refl (order_fields n) (order_fitting n due_in ranks costs number ticket fit))
 call_written n (advanced ticket) fit =
-    rw (form_written (ascii "T") (ticket ∷ []) refl (most32 ∷ []) (omega arith)) (or_true (is_offer n (line_bytes (ascii "T") (ticket ∷ []))))
+    rw (form_written (ascii "T") (ticket ∷ []) refl (most32 ∷ []) (omega arith)) (or-true (is_offer n (line_bytes (ascii "T") (ticket ∷ []))))
 
 pub call_read : (n : ℕ) (line : Line) → LineFits n line → line_of n (call_bytes line) ≡ line
 unfolding line_of is_advance call_bytes all same
@@ -159,7 +159,7 @@ call_unbroken (advanced ticket) = line_unbroken (ascii "T") (ticket ∷ []) refl
 -- A call that is no advance is an offer.
 call_offers : (n : ℕ) (line : List ℕ) → is_call n line ≡ true → is_advance line ≡ false → has_form (ascii "O") (order_fields n) line ≡ true
 unfolding is_call is_offer
-call_offers n line e other = sym (or_false (has_form (ascii "O") (order_fields n) line)) ∙ rw other at e
+call_offers n line e other = sym (or-false (has_form (ascii "O") (order_fields n) line)) ∙ rw other at e
 
 pub call_back : (n : ℕ) (line : List ℕ) → is_call n line ≡ true → call_bytes (line_of n line) ≡ line
 unfolding line_of call_bytes is_advance

@@ -2,7 +2,7 @@
 -- from the second line on forms and calls say what is printed.
 use mathlib.Core.Path.{◌≡◌, refl, sym, ap, ◌∙◌}
 use mathlib.Core.Logic.{◌⊎◌, inl, inr}
-use mathlib.Core.Bool.{true, false, or_true}
+use mathlib.Core.Bool.{true, false, or-true}
 use mathlib.Core.List.{List, [], ◌∷◌, ◌++◌, map}
 use Prim.Native.Nat.{ℕ, ◌≤◌}
 use native.Mathlib.Omega.{arith}
@@ -47,7 +47,7 @@ output_is log = refl
 -- ---- there is no line
 reads_none : (image p : List ℕ) → read image [] p ≡ output [] p
 unfolding shown begun formed
-reads_none image p = rw or_true (sym (verdict_false 1 (unended p) (result_of (stations_of []) []) (omega arith)))
+reads_none image p = rw or-true (sym (verdict_false 1 (unended p) (result_of (stations_of []) []) (omega arith)))
 
 -- ---- the first line
 first_ended : (image line : List ℕ) → line_ended (ran_in (start image)) line ≡ first_line (ran_in (start image)) line

@@ -6,8 +6,8 @@ use Rattle.log_model.specs.Lines.{Line, offered, advanced}
 abbrev pub NoneAbove : ℕ → List ℕ → Type 0
 NoneAbove most l = (i : ℕ) → get_or l i 0 ≤ most
 
-pub record OfferFits (n due_in : ℕ) (ranks costs : List ℕ) (number ticket : ℕ) : Type 0 where
-  pub due_in : due_in ≤ most32
+pub record OfferFits (n due : ℕ) (ranks costs : List ℕ) (number ticket : ℕ) : Type 0 where
+  pub due_in : due ≤ most32
   pub ranks_count : length ranks ≡ n
   pub ranks_fit : NoneAbove most8 ranks
   pub costs_count : length costs ≡ n

@@ -1,7 +1,7 @@
 // "It runs the log from a fresh cabinet": the call that a line records is made, and what it gives compared with what is recorded.
 ghost use Rattle.std.specs.Prelude.{◌≡◌, ◌+◌};
 ghost use Rattle.model.specs.Lists.{part};
-ghost use Rattle.model.specs.Admission.{blockBytes};
+ghost use Rattle.model.specs.Admission.{block_bytes};
 ghost use Rattle.log_model.specs.Lines.{to_eight, advanced, offered_by};
 ghost use Rattle.log_model.specs.Reading.{ran_line};
 ghost use Rattle.log_lines.specs.Orders.{OrderFits, order_of};
@@ -63,7 +63,7 @@ fn first_costs(n: usize, values: [u32; MAX_FIELDS]) -> [u16; 8]
 // The order's block. Ruled out: the first rank as its due-in; the costs before the ranks.
 fn block_of(n: usize, values: [u32; MAX_FIELDS]) -> [u8; BLOCK_SIZE]
     requires { OrderFits n values }
-    ensures { result ≡ blockBytes (order_of n values) }
+    ensures { result ≡ block_bytes (order_of n values) }
 {
     let ranks = first_ranks(n, values);
     let costs = first_costs(n, values);

@@ -1,6 +1,8 @@
 // What is known of a log while it is read (document 02, (iv)). The definitions are in specs/: the form of a line, what a log says, what
 // is printed for it, and how that is found byte by byte, in a state that does not grow. What they mean, and the worked cases, are
 // proved in proofs/ and in the crate `log_laws`.
+#![tactic(auto)]
+
 pub mod limits; // the figures
 
 // What the lines that have ended make of a log: the number of the line that is read, from 1, or 0 when lines are no longer

@@ -1,5 +1,7 @@
 // Reads a standing table from standard input and writes its figures to standard output. It only reads and writes: what it
 // writes of the bytes that it read is `plan_output` of the crate `plan_model`.
+#![tactic(auto)]
+
 use plan_model::limits::MAX_INPUT;
 
 // One byte more than an input may have, so that a longer input is seen to be longer.

@@ -2,7 +2,7 @@
 // runs over that, and its records are copied back, so that the functions that hold the list do no arithmetic.
 ghost use Rattle.std.specs.Prelude.{◌≡◌, ◌++◌, ◌≤◌, length, take, drop};
 ghost use Rattle.plan_model.specs.Limits.{max_tasks};
-ghost use Rattle.plan_model.specs.Plan.{planNumber, after_plan};
+ghost use Rattle.plan_model.specs.Plan.{plan_number, after_plan};
 
 use plan_model::Task;
 
@@ -23,7 +23,7 @@ fn copy(from: &mut [Task], to: &mut [Task], count: usize)
 // steps, so that the list is left alone with no branch here. The array that the core is passed has a name: without one it would share
 // a local with what `no_tasks` gave, and be copied piece by piece. Ruled out: figures in the list after a decline; 0 for 33 records.
 pub fn plan(tasks: &mut [Task], n: u32) -> u32
-    ensures { (result ≡ planNumber n tasks.old) × (tasks.new ≡ after_plan n tasks.old) }
+    ensures { (result ≡ plan_number n tasks.old) × (tasks.new ≡ after_plan n tasks.old) }
 {
     let count = tasks.len();
     let held = super::by_value::held(count);
@@ -58,7 +58,7 @@ fn pack(number: u32, tasks: [Task; 32]) -> Planned
 // number is 0.
 fn plan_first(tasks: [Task; 32], held: usize, n: u32) -> Planned
     requires { held ≤ max_tasks }
-    ensures { (result.number ≡ planNumber n (take held tasks)) × (result.tasks ≡ after_plan n (take held tasks) ++ drop held tasks) }
+    ensures { (result.number ≡ plan_number n (take held tasks)) × (result.tasks ≡ after_plan n (take held tasks) ++ drop held tasks) }
 {
     let mut list = tasks;
     let number = plan(&mut list[..held], n);
@@ -68,7 +68,7 @@ fn plan_first(tasks: [Task; 32], held: usize, n: u32) -> Planned
 // Plan over the first records of an array, by value: its callers hold no reference to a struct, and need no walk. The array has 32
 // records, and a larger count is all of them. Ruled out: the figures of 31 tasks for 32; a record after the first ones changed.
 pub fn plan_array(tasks: [Task; 32], count: usize, n: u32) -> Planned
-    ensures { (result.number ≡ planNumber n (take count tasks)) × (result.tasks ≡ after_plan n (take count tasks) ++ drop count tasks) }
+    ensures { (result.number ≡ plan_number n (take count tasks)) × (result.tasks ≡ after_plan n (take count tasks) ++ drop count tasks) }
 {
     plan_first(tasks, super::by_value::held(count), n)
 }

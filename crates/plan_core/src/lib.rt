@@ -1,4 +1,6 @@
 // Plan in code: the task set as plain numbers, the response iteration over them, and the entry over a lent list of task records.
+#![tactic(auto)]
+
 pub mod costs; // a task's costs at the first stations
 pub mod table; // the task set as plain numbers
 pub mod response; // the response of a task

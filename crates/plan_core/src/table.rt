@@ -3,7 +3,7 @@ ghost use Rattle.std.specs.Prelude.{◌≡◌, ◌-◌, ◌≤◌};
 ghost use Rattle.model.specs.Limits.{max_stations};
 ghost use Rattle.plan_model.specs.Limits.{max_tasks};
 ghost use Rattle.plan_model.specs.Plan.{in_range};
-ghost use Rattle.plan_core.specs.Table.{tableTo};
+ghost use Rattle.plan_core.specs.Table.{table_to};
 
 use plan_model::Task;
 use plan_model::limits::MAX_PERIOD;
@@ -42,7 +42,7 @@ fn before_last(stations: usize) -> usize
 // the table in range.
 pub fn table_of(tasks: [Task; 32], count: usize, stations: usize) -> Table
     requires { (count ≤ max_tasks) × (stations ≤ max_stations) }
-    ensures { result ≡ tableTo stations count tasks }
+    ensures { result ≡ table_to stations count tasks }
 {
     let before = before_last(stations);
     let mut periods = [0u32; 32];

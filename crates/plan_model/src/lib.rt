@@ -1,5 +1,7 @@
 // A periodic task of the standing table, as plan is lent it. The definitions of plan are in specs/, from the base of a task to the bytes that the program
 // prints; what they mean, and the worked cases, are proved in proofs/.
+#![tactic(auto)]
+
 pub mod limits; // the figures
 
 // "On time means R repeats below the deadline".

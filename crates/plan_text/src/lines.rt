@@ -1,6 +1,6 @@
 // The lines of the plan program's input (document 01, "The standing table"): numbers with "single spaces" between them.
 ghost use Rattle.std.specs.Prelude.{◌≡◌, ◌≤◌};
-ghost use Rattle.plan_model.specs.Limits.{maxNumbers};
+ghost use Rattle.plan_model.specs.Limits.{max_numbers};
 ghost use Rattle.plan_text.specs.Lines.{malformed_line, line_of};
 
 use super::words::{Value, value_of};
@@ -32,7 +32,7 @@ fn malformed() -> Line
 // The numbers of a line that has `count` of them and nothing else. A line ends without a space, so after its last word `at` is
 // past its end. Ruled out: the first `count` numbers of a longer line; those of a line that ends with a space.
 pub fn read_line(line: &[u8], count: usize) -> Line
-    requires { count ≤ maxNumbers }
+    requires { count ≤ max_numbers }
     ensures { result ≡ line_of count line.now }
 {
     let mut numbers = [0u32; MAX_NUMBERS];

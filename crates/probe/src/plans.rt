@@ -3,7 +3,7 @@ ghost use Rattle.std.specs.Prelude.{◌≡◌, ◌≤◌};
 ghost use Rattle.lists.specs.Stored.{Put};
 ghost use Rattle.plan_model.specs.Output.{plan_output};
 ghost use Rattle.plan_text.specs.Parsed.{parsed as parsedOf};
-ghost use Rattle.probe.specs.Rounds.{numberAfter};
+ghost use Rattle.probe.specs.Rounds.{number_after};
 
 // What the plan program prints for an input.
 #[unsafe(no_mangle)]
@@ -18,7 +18,7 @@ pub extern "C" fn plan_probe_text(input: &[u8], out: &mut [u8; 1024]) -> usize
 // one gives; that of the form where it does not pass, or where there is no round.
 #[unsafe(no_mangle)]
 pub extern "C" fn plan_probe_rounds(input: &[u8], rounds: u32) -> u32
-    ensures { result ≡ numberAfter rounds (parsedOf input.now) }
+    ensures { result ≡ number_after rounds (parsedOf input.now) }
 {
     let parsed = plan_text::input::parse(input);
     let form = parsed.form;

@@ -1,5 +1,7 @@
 // Reads a log from standard input, of any length, reruns it and writes what there is to say of it to standard output. Of the bytes that it
 // read, whatever the chunks were, that is `printed` of the crate `log_model`.
+#![tactic(auto)]
+
 ghost use Rattle.log_model.specs.Reading.{begun};
 ghost use Rattle.log_reader.specs.Reached.{Reached};
 

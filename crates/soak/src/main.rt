@@ -2,6 +2,8 @@
 // The orders drawn, the digest, the counts and the rows are under contract in the crates that this calls, and so are the calls.
 // What the program prints is compared with what the second simulator gives for the same calls (tests/gate/soak): no promise here
 // speaks of a whole run.
+#![tactic(auto)]
+
 ghost use Rattle.std.specs.Prelude.{◌≤◌};
 ghost use Rattle.model.specs.Limits.{max_stations};
 

@@ -1,5 +1,7 @@
 // Document 01, "Sound means", clause by clause from a row of eight entries to the whole image, and the questions that every
 // call asks first, of which the last is whether the image is sound.
+#![tactic(auto)]
+
 pub mod row_figures; // the largest entry of a row, and the sum of those that count in the delay bound
 pub mod rows; // what is asked of the rows of a record
 pub mod row_limits; // what may stand at each place of a row, as rows of numbers

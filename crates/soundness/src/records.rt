@@ -3,7 +3,7 @@
 ghost use Rattle.std.specs.Prelude.{◌≡◌, ◌<◌};
 ghost use Rattle.model.specs.Soundness.{due_in_range, station_in_use, sum_in_range, record_zero_beyond};
 ghost use Rattle.model.specs.DelayBound.{on_time};
-ghost use Rattle.soundness.specs.Records.{tests_of, bothOf};
+ghost use Rattle.soundness.specs.Records.{tests_of, both_of};
 
 use model::Order;
 use model::limits::{LAST_TICK, MAX_DUE_IN};
@@ -94,7 +94,7 @@ pub fn tested(n: u32, clock: u32, o: Order) -> Tests
 
 // The clauses that hold in both.
 pub fn both(a: Tests, b: Tests) -> Tests
-    ensures { result ≡ bothOf a b }
+    ensures { result ≡ both_of a b }
 {
     Tests {
         accepted: a.accepted & b.accepted,

@@ -9,7 +9,7 @@ use super::row_figures::wide;
 use model::limits::MAX_COST;
 
 // For a pipeline of n stations.
-#[derive(Drop)]
+#[derive(Clone, Copy)]
 pub struct Limits {
     pub n: u32,
     pub least: [u16; 8], // of a cost: 1, and 0 beyond n

@@ -1,6 +1,6 @@
 -- A decimal says its number, and a word of the form is the decimal of its value. A number goes by its tenths, a word digit by digit.
 use mathlib.Core.Path.{◌≡◌, sym, ◌∙◌}
-use mathlib.Core.Bool.{true, false, not, ◌&&◌, or_true, true≢false}
+use mathlib.Core.Bool.{true, false, not, ◌&&◌, or-true, true≢false}
 use mathlib.Core.List.{List, [], ◌∷◌, ◌++◌, foldl, foldl-append, append-nil, append_assoc}
 use Prim.Native.Nat.{ℕ, zero, suc, ◌-◌, ◌/◌, ◌%◌, ◌≤◌, ◌<◌}
 use native.Mathlib.Nat.{mod-lt, div-mul-le_self, div-add-mod', le-div_iff_mul-le, mul-add-div_right, mul-add-mod_self_right, div-eq_of_lt, mod-eq_of_lt}
@@ -63,7 +63,7 @@ no_leading_zero_lem n =
     (λ e. rw (length-one n (ltb-true n 10 e)))
     (λ e.
     let large : 10 ≤ n = ltb-false n 10 e in
-    rw (ne_eqb (get_or (decimal n) 0 0) (digit 0) (first_digit n (omega arith))) (or_true (eqb (length (decimal n)) 1)))
+    rw (ne_eqb (get_or (decimal n) 0 0) (digit 0) (first_digit n (omega arith))) (or-true (eqb (length (decimal n)) 1)))
 
 pub is_decimal_lem : (n : ℕ) → is_decimal (decimal n) ≡ true
 unfolding is_decimal

@@ -1,5 +1,7 @@
 // Printing into a lent buffer. Each function stores its bytes from a place on, leaves every other byte alone, and answers the
 // place after the last byte stored, so that printers are put one after the other.
+#![tactic(auto)]
+
 pub mod parts; // the parts of a text, found one after the other
 
 ghost use Rattle.std.specs.Prelude.{◌≡◌, [], ◌∷◌, ◌+◌, ◌≤◌, ◌<◌, length};

@@ -1,4 +1,6 @@
 // Document 01, "The course of one tick", in its order: the starts, one tick less to go at each station, and who leaves.
+#![tactic(auto)]
+
 pub mod selection; // who goes first at each idle station
 pub mod starting; // the starts
 pub mod entries; // one tick less to go

@@ -11,7 +11,7 @@ use model::{Order, Service};
 
 // The order that would start at a station: its ticket, its due tick, and its cost and rank there; zeros for nobody. The rank
 // has two bytes so that no byte of a `Candidate` is padding, and an array of nobodies is a fill.
-#[derive(Drop)]
+#[derive(Clone, Copy)]
 pub struct Candidate {
     pub ticket: u32,
     pub due: u32,

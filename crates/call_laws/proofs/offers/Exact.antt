@@ -89,7 +89,7 @@ exact image block reply =
             written = margin_given image block reply decided;
             signed32 = λ bytes. let c = considered image block reply decided in margin_near s b (sound_gives image bytes c.usable.image_sound).facts c.fitting;
             to_spare = λ e. let u = (both_pass own live).only ((asked 0 (inl refl)).only e).1 in sign ∙ rw (u.0, u.1);
-            too_late_lem = too_late_lem;
+            too_late = too_late_lem;
           };
     }
   where

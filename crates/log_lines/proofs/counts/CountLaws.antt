@@ -15,7 +15,7 @@ use Rattle.model.specs.Lists.{within, any, upward}
 use Rattle.model.specs.Layout.{image_size, records_at, record_size, station_at, record_part}
 use Rattle.model.specs.Image.{order_of, orders_of, live_count, decode}
 use Rattle.lists.proofs.Fills.{upward_from, upward-more}
-use Rattle.lists.proofs.Tests.{either, or_false, any_more}
+use Rattle.lists.proofs.Tests.{either, or-false, any_more}
 use Rattle.image_laws.proofs.Tests.{within_says}
 use Rattle.log_model.specs.Reading.{one_more, occupied, counted}
 
@@ -44,21 +44,21 @@ counted_next (b ∷ here) (x ∷ busy) (suc k) h =
 
 -- Stations k to k + n - 1 where an order is, with an order more: at none of them, or at station k + i.
 module _ (f : ℕ → Bool) where
-  or_true : (b : Bool) → (b || true) ≡ true
-  or_true true = refl
-  or_true false = refl
+  or-true : (b : Bool) → (b || true) ≡ true
+  or-true true = refl
+  or-true false = refl
 
   unmarked : (k n s : ℕ) → ((j : ℕ) → k ≤ j → j < k + n → s ≡ j → ⊥) → upward k n f ≡ upward k n (λ j. f j || eqb s j)
-  unmarked k n s away = upward_from k n f (λ j. f j || eqb s j) (λ j low high. rw (ne_eqb s j (away j low high), or_false (f j)))
+  unmarked k n s away = upward_from k n f (λ j. f j || eqb s j) (λ j low high. rw (ne_eqb s j (away j low high), or-false (f j)))
 
   marked : (k n i : ℕ) → i < n → set (upward k n f) i true ≡ upward k n (λ j. f j || eqb (k + i) j)
   unfolding upward
   marked k zero i h = absurd (let z : ⊥ = omega arith in z)
   marked k (suc n) zero h =
-      rw (eq-eqb (k + 0) k (add-zero k), or_true (f k)) (ap (λ (l : List Bool). true ∷ l) (unmarked (suc k) n (k + 0) (λ j low high e. omega arith)))
+      rw (eq-eqb (k + 0) k (add-zero k), or-true (f k)) (ap (λ (l : List Bool). true ∷ l) (unmarked (suc k) n (k + 0) (λ j low high e. omega arith)))
   marked k (suc n) (suc i) h =
       let e : k + suc i ≡ suc k + i = omega arith in
-      rw (ne_eqb (k + suc i) k (λ e. omega arith), or_false (f k), e) (ap (λ (l : List Bool). f k ∷ l) (marked (suc k) n i (omega arith)))
+      rw (ne_eqb (k + suc i) k (λ e. omega arith), or-false (f k), e) (ap (λ (l : List Bool). f k ∷ l) (marked (suc k) n i (omega arith)))
 
 abbrev or_at : List Order → ℕ → ℕ → Bool
 or_at orders s k = any (λ o. eqb o.station k) orders || eqb s k

@@ -10,7 +10,7 @@ use lib.Dec.{leb, ltb, eqb}
 use borrow.Author.Tests.{leb-true, eqb-true, ne_eqb}
 use Rattle.model.specs.Limits.{max_stations}
 use Rattle.model.specs.Lists.{part, within}
-use Rattle.lists.proofs.Tests.{and_both, and_false, or_false, inside}
+use Rattle.lists.proofs.Tests.{and_both, and_false, or-false, inside}
 use Rattle.text.specs.Parts.{space, words}
 use Rattle.log_model.specs.Limits.{most32}
 use Rattle.log_model.specs.Lines.{fit_all, values_of, stations_of, is_stations, order_fields, is_offer, is_advance, advanced, offered_by, line_of}
@@ -108,7 +108,7 @@ module _ (line : List ℕ) where
     unfolding is_call
     offer_is_call =
         let all : take (2 * n + 3) (order_fields n) ≡ order_fields n = take_all (2 * n + 3) (order_fields n) (omega (arith, length_order_fields n)) in
-        rw (not_advance, offer_form n, is, or_false, fields_formed n (2 * n + 3) (drop 2 line) read, all)
+        rw (not_advance, offer_form n, is, or-false, fields_formed n (2 * n + 3) (drop 2 line) read, all)
 
     module _ (formed : f.formed ≡ true) where
       value_is : (k : ℕ) → get_or (values_of line) k 0 ≡ get_or f.values k 0

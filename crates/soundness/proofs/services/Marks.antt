@@ -17,7 +17,7 @@ use Rattle.model.specs.Image.{service_of, services_of}
 use Rattle.model.specs.Soundness.{serves}
 use Rattle.soundness.specs.Services.{served_by, marked_by}
 use Rattle.lists.proofs.Fills.{length-upward, get_d_upward}
-use Rattle.lists.proofs.Tests.{and_true, and_false, or_false, either, any_more, length-numbered, get_d_numbered, is_numbered_lem}
+use Rattle.lists.proofs.Tests.{and_true, and_false, or-false, either, any_more, length-numbered, get_d_numbered, is_numbered_lem}
 
 -- A station of the eight, and its place.
 pub in_range_lem : (k : ℕ) → within 1 8 k ≡ true → (1 ≤ k) × (k ≤ 8)
@@ -74,7 +74,7 @@ module _ (services : List Service) (eight : length services ≡ 8) where
         is_numbered_lem (λ k e. at false marks k || serves k e o) idle false services marks (all-eight ∙ sym eight)
         (λ i g.
         rw (elsewhere (suc i) (get_or services i idle) (outside h (suc i) (omega arith) (omega arith)))
-        (sym (or_false (get_or marks i false))))
+        (sym (or-false (get_or marks i false))))
 
     -- Whether the entry at place k has the order's ticket, and ticks to go from 1 to its cost there.
     abbrev fits : ℕ → Bool
@@ -101,7 +101,7 @@ module _ (services : List Service) (eight : length services ≡ 8) where
         (λ e.
         let away : o.station ≡ suc i → ⊥ = eqb-false o.station (suc i) e in
         get_or-set_other marks k i v false (λ j. away (omega arith))
-        ∙ rw (elsewhere (suc i) (get_or services i idle) away) (sym (or_false (get_or marks i false)))))
+        ∙ rw (elsewhere (suc i) (get_or services i idle) away) (sym (or-false (get_or marks i false)))))
 
     -- The same by what the entry at its station says of the ticket.
     pub marked_ticket : {e : Service} → e ≡ get_or services (o.station - 1) idle → within 1 8 o.station ≡ true → o.ticket ≡ e.ticket → set marks (o.station - 1) (get_or marks (o.station - 1) false || within 1 (get_or o.costs (o.station - 1) 0) e.left) ≡ marked_by services o marks
@@ -114,4 +114,4 @@ module _ (services : List Service) (eight : length services ≡ 8) where
     marked_other {e} same h t =
         let k = o.station - 1 in
         let ours : eqb o.ticket (get_or services k idle).ticket ≡ false = ne_eqb o.ticket (get_or services k idle).ticket (λ z. t (z ∙ ap (λ (v : Service). v.ticket) (sym same))) in
-        sym (set-get_or marks k false) ∙ rw (or_false (get_or marks k false)) at (rw ours at (marked_own h))
+        sym (set-get_or marks k false) ∙ rw (or-false (get_or marks k false)) at (rw ours at (marked_own h))

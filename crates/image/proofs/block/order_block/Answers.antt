@@ -1,0 +1,21 @@
+-- Three stores, one after the other, that fill the block.
+use mathlib.Core.Path.{◌≡◌}
+use native.Mathlib.Omega.{arith}
+use lib.ListN.{length, length-append}
+use borrow.Author.Rules.{rules}
+use Rattle.lists.proofs.Stores.{stored_then, stored_all}
+use Rattle.image.proofs.encode.Rows.{length-halves}
+use Rattle.model.specs.Admission.{block_bytes}
+use Rattle.image.proofs.block.order_block.Goals as goal
+
+pub returns : goal.returns
+unfolding block_bytes
+returns c =
+    let ranks-long : length c.args.ranks ≡ 8 = search rules in
+    let costs-long : length c.args.costs ≡ 8 = search rules in
+    let a = c.args in
+    let ranks = ranks-long in
+    let costs = costs-long in
+    stored_all
+    (stored_then (stored_then c.put_u32.ensures (omega arith) c.put_eight_bytes.ensures) (simp length-append (omega arith)) c.put_eight_halves.ensures)
+    (simp length-append (omega (arith, length-halves a.costs)))

@@ -1,0 +1,18 @@
+-- An array of unused records, filled from the front.
+use mathlib.Core.Path.{◌≡◌, ap, ◌∙◌}
+use mathlib.Core.List.{◌++◌}
+use Prim.Native.Nat.{◌≤◌, ◌-◌}
+use native.Mathlib.Omega.{arith}
+use lib.ListN.{length, length-set, replicate, length-replicate}
+use borrow.Author.Rules.{rules}
+use Rattle.model.specs.Limits.{max_live}
+use Rattle.model.specs.Image.{orders_of}
+use Rattle.lists.proofs.Fills.{pad_start, pad_next}
+use Rattle.image.specs.Pipeline.{unused}
+use Rattle.image.proofs.decode.orders_of.Given as goal
+
+abbrev pub invariant-loop-i : goal.invariant-loop-i
+invariant-loop-i l = (l.i ≤ l.live) × (length l.orders ≡ max_live) × (l.orders ≡ orders_of l.image l.i ++ replicate (max_live - l.i) unused)
+
+abbrev pub decreases-loop-i : goal.decreases-loop-i
+decreases-loop-i l = l.live - l.i

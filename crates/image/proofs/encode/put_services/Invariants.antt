@@ -1,0 +1,22 @@
+-- The entries so far are one store of rows.
+use mathlib.Core.Path.{◌≡◌, refl, sym, ap, ◌∙◌}
+use mathlib.Core.List.{map}
+use Prim.Native.Nat.{◌≤◌, ◌-◌}
+use native.Mathlib.Omega.{arith}
+use lib.ListN.{length, get_or}
+use lib.Seq.{take_all}
+use borrow.Author.Rules.{rules}
+use Rattle.model.specs.Lists.{concat}
+use Rattle.model.specs.Layout.{image_size, services_at, service_size}
+use Rattle.model.specs.Image.{service_bytes}
+use Rattle.lists.proofs.Stores.{stored_same}
+use Rattle.lists.proofs.Fills.{Rows, rows_none, rows_more, map-upward}
+use Rattle.image.proofs.encode.Rows.{length_service}
+use Rattle.model.specs.State.{idle}
+use Rattle.image.proofs.encode.put_services.Given as goal
+
+abbrev pub invariant-loop-i : goal.invariant-loop-i
+invariant-loop-i l = (l.i ≤ 8) × (length l.image ≡ image_size) × Rows (λ k. service_bytes (get_or l.services k idle)) service_size l.initial.image services_at l.i l.image
+
+abbrev pub decreases-loop-i : goal.decreases-loop-i
+decreases-loop-i l = 8 - l.i

@@ -1,0 +1,16 @@
+-- The zeros so far are one store.
+use mathlib.Core.Path.{◌≡◌, refl}
+use Prim.Native.Nat.{◌≤◌, ◌+◌, ◌-◌}
+use native.Mathlib.Nat.{sub_self}
+use native.Mathlib.Omega.{arith}
+use lib.ListN.{length-set, length, replicate}
+use borrow.Author.Rules.{rules}
+use Rattle.lists.specs.Stored.{Stored}
+use Rattle.lists.proofs.Stores.{stored_none, fill_more}
+use Rattle.image.proofs.encode.put_zeros.Given as goal
+
+abbrev pub invariant-loop-i : goal.invariant-loop-i
+invariant-loop-i l = (l.from ≤ l.i) × (l.i ≤ length l.out) × (length l.out ≡ length l.initial.out) × Stored l.initial.out l.from (replicate (l.i - l.from) 0) l.out
+
+abbrev pub decreases-loop-i : goal.decreases-loop-i
+decreases-loop-i l = length l.out - l.i

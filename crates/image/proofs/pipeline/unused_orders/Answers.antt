@@ -1,0 +1,6 @@
+-- The one record, 32 times.
+use borrow.Author.Rules.{rules}
+use Rattle.image.proofs.pipeline.unused_orders.Goals as goal
+
+pub returns : goal.returns
+returns c = rw c.unused_order-o.ensures

@@ -1,0 +1,8 @@
+-- Each entry is what its reader says.
+use borrow.Author.Rules.{rules}
+use Rattle.model.specs.Bytes.{eight_bytes}
+use Rattle.image.proofs.reader.eight_bytes_at.Goals as goal
+
+pub returns : goal.returns
+unfolding eight_bytes
+returns c = cc

@@ -1,0 +1,20 @@
+use native.Mathlib.Omega.{arith}
+use mathlib.Core.Path.{◌≡◌, refl, sym}
+use Prim.Native.Nat.{◌≤◌, ◌-◌}
+use Rattle.model.specs.Lists.{is_zero, all, concat, upward}
+use Rattle.soundness.specs.Zeros.{service_zeros}
+use Rattle.lists.proofs.Tests.{all-rows}
+use Rattle.soundness.proofs.zeros.services_zero.Goals as goal
+
+pub loop-i-init : goal.loop-i-init
+unfolding all concat upward
+loop-i-init c = (omega arith, refl)
+
+pub loop-i-preserved : goal.loop-i-preserved
+loop-i-preserved c =
+    (omega arith, rw (c.loop-i.invariant.1, c.service_zero-holds.ensures) (sym (all-rows is_zero c.loop-i.i _)))
+
+pub returns : goal.returns
+returns c =
+    let e : c.loop-i.i ≡ 8 = omega arith in
+    rw e at c.loop-i.invariant.1
