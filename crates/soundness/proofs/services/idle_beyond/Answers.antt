@@ -11,17 +11,16 @@ use Rattle.lists.proofs.Fills.{length_mapped}
 use Rattle.lists.proofs.Tests.{none_beyond, all-beyond}
 use Rattle.soundness.proofs.services.idle_beyond.Goals as goal
 
-long : (c : tie.Start invariant-loop decreases-loop) → length c.args.t2 ≡ 8
-long c = search (rules, length_mapped)
-
 pub loop-k-init : goal.loop-k-init
 loop-k-init c = (omega arith, none_beyond is_idle c.args.n)
 
 pub loop-k-preserved : goal.loop-k-preserved
 loop-k-preserved c =
-    (omega arith, rw (c.loop-k.invariant.1, c.idle.ensures) (sym (all-beyond is_idle idle c.args.n c.args.services c.loop-k.k (omega (arith, long c)))))
+    let long : length c.args.services ≡ 8 = search (rules, length_mapped) in
+    (omega arith, rw (c.loop-k.invariant.1, c.idle.ensures) (sym (all-beyond is_idle idle c.args.n c.args.services c.loop-k.k (omega (arith, long)))))
 
 pub returns : goal.returns
 returns c =
+    let long : length c.args.services ≡ 8 = search (rules, length_mapped) in
     let e : c.loop-k.k ≡ 8 = omega arith in
-    rw (take_all 8 c.args.services (omega (arith, long c))) at (rw e at c.loop-k.invariant.1)
+    rw (take_all 8 c.args.services (omega (arith, long))) at (rw e at c.loop-k.invariant.1)

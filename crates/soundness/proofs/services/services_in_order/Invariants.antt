@@ -18,6 +18,9 @@ use Rattle.lists.proofs.Tests.{stations_none, stations_more}
 use Rattle.soundness.proofs.services.Marks.{served_at_lem}
 use Rattle.soundness.proofs.services.services_in_order.Given as goal
 
+abbrev pub idle_or_served : List Order → ℕ → Service → Bool
+idle_or_served orders k e = is_idle e || any (serves k e) orders
+
 abbrev pub invariant-loop-k : goal.invariant-loop-k
 invariant-loop-k l = (l.k ≤ 8) × (l.holds ≡ all_stations (idle_or_served (orders_of l.image l.live)) (take l.n (take l.k l.services)))
 

@@ -22,7 +22,7 @@ ticks_hold-requires c = made c.limits_of-limits.ensures (omega arith)
 pub returns-then-not-ticks_hold : goal.returns-then-not-ticks_hold
 returns-then-not-ticks_hold c =
     let same : c.limits_of-limits.result.n ≡ c.args.n = ap (λ (l : Limits). l.n) c.limits_of-limits.ensures in
-    let fails = not-true c.ticks_hold.result c.if-not-ticks_hold.true in
+    let fails = c.if-not-ticks_hold.true in
     held_fails _ _ _ _ c.loop-i.i (omega arith) (rw (c.ticks_hold.ensures, c.order_at-o.ensures, same) at fails)
 
 pub flaws_with-more_flaws-requires : goal.flaws_with-more_flaws-requires
@@ -32,7 +32,7 @@ pub loop-i-preserved : goal.loop-i-preserved
 loop-i-preserved c =
     let same : c.limits_of-limits.result.n ≡ c.args.n = ap (λ (l : Limits). l.n) c.limits_of-limits.ensures in
     let o = c.order_at-o.ensures in
-    let hold = not-false c.ticks_hold.result c.if-not-ticks_hold.false in (
+    let hold = c.if-not-ticks_hold.false in (
       omega arith,
       held_more _ _ _ c.loop-i.flaws c.loop-i.ranks c.loop-i.i c.loop-i.invariant.1
           (rw (c.ticks_hold.ensures, o, same) at hold)
