@@ -9,14 +9,14 @@ use model::Order;
 use soundness::row_limits::Limits;
 
 // What a done offer gives beside the ticket: "acceptance tick + delay sum, and the smallest margin".
-#[derive(Drop)]
+#[derive(Clone, Copy)]
 pub struct Figures {
     pub tick: u32,
     pub margin: i32,
 }
 
 // The question that was answered "no", 11 and 12 with the smallest margin, or that none was.
-#[derive(Drop)]
+#[derive(Clone, Copy)]
 pub enum Decision {
     Accepted(Figures),
     Costs,
@@ -49,7 +49,7 @@ pub fn decide(l: Limits, a: Order, others: i32) -> Decision
 }
 
 // What a reply holds.
-#[derive(Drop)]
+#[derive(Clone, Copy)]
 pub struct Reply {
     pub number: u32,
     pub ticket: u32,

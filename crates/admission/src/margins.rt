@@ -46,7 +46,7 @@ pub fn smaller(a: i32, b: i32) -> i32
 }
 
 // What the live orders come to with an arrival: its interference set, and their smallest margin.
-#[derive(Drop)]
+#[derive(Clone, Copy)]
 pub struct Tried {
     pub sum: u32,
     pub maxima: [u16; 8],

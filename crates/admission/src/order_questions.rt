@@ -23,7 +23,7 @@ use model::{Block, Order};
 use soundness::row_limits::limits_of;
 
 // The decision, and beside it the arrival where it was accepted: an enum holds no array.
-#[derive(Drop)]
+#[derive(Clone, Copy)]
 pub struct Offered {
     pub decision: Decision,
     pub arrival: Order,

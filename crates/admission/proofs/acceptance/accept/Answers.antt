@@ -1,0 +1,61 @@
+-- The records, the arrival and the header are one image: that of the accepted state.
+use mathlib.Core.Path.{◌≡◌, refl, ◌∙◌}
+use mathlib.Core.Bool.{cond}
+use mathlib.Core.List.{List}
+use Prim.Native.Nat.{ℕ, ◌+◌, ◌<◌}
+use native.Mathlib.Omega.{arith}
+use borrow.Author.Rules.{rules}
+use lib.Dec.{eqb}
+use Rattle.model.specs.declared.Block.{Block}
+use Rattle.model.specs.declared.Order.{Order}
+use Rattle.model.specs.Limits.{max_live, last_ticket}
+use Rattle.model.specs.Image.{live_count, decode}
+use Rattle.model.specs.Admission.{arrival, accept}
+use Rattle.lists.proofs.Stores.{stored_length}
+use Rattle.image_laws.specs.InRange.{byte_limit, Below}
+use Rattle.image_laws.proofs.Read.{decode_n}
+use Rattle.admission.specs.Acceptance.{Acceptable}
+use Rattle.admission.proofs.acceptance.AcceptLaws.{room, sums, accepted}
+use Rattle.admission.proofs.acceptance.accept.Goals as goal
+
+-- The image's bytes are bytes, and it has an unused record.
+bytes_of : (c : tie.After-slice-known) → Below byte_limit c.before.args.image.now
+bytes_of c i = (c.slice-known.given i).fits
+
+-- The ticket after the arrival's is the next one.
+next_is : (image : List ℕ) {b : Block} {a : Order} {next : ℕ} → Acceptable image b a → next ≡ cond (eqb a.ticket last_ticket) 0 (a.ticket + 1) → next ≡ (accept (decode image) b).next
+unfolding accept arrival
+next_is image ok e = e ∙ rw ok.arrives
+
+pub put_joined-requires : goal.put_joined-requires
+put_joined-requires c =
+    let spare : live_count c.args.image.now < max_live = room c.requires (bytes_of c) in
+    let ok = c.requires in
+    ((ok.whole, omega (arith, c.wide.ensures, spare)), λ i h. sums ok (bytes_of c) i (omega (arith, h, c.wide.ensures)))
+
+pub overflow_mul-wide : goal.overflow_mul-wide
+overflow_mul-wide c =
+    let spare : live_count c.args.image.now < max_live = room c.requires (bytes_of c) in
+    omega (arith, c.wide-2.ensures, spare)
+
+pub overflow_add-wide : goal.overflow_add-wide
+overflow_add-wide c =
+    let spare : live_count c.args.image.now < max_live = room c.requires (bytes_of c) in
+    omega (arith, c.wide-2.ensures, spare)
+
+pub put_order-requires : goal.put_order-requires
+put_order-requires c =
+    let spare : live_count c.args.image.now < max_live = room c.requires (bytes_of c) in
+    omega (arith, c.wide-2.ensures, spare, c.requires.whole, stored_length c.put_joined.ensures.0)
+
+pub overflow_add-live : goal.overflow_add-live
+overflow_add-live c =
+    let spare : live_count c.args.image.now < max_live = room c.requires (bytes_of c) in
+    omega (arith, spare)
+
+pub returns : goal.returns
+returns c =
+    let ok = c.requires in
+    let rows = rw c.wide.ensures at c.put_joined.ensures in
+    let laid = rw c.wide-2.ensures at c.put_order.ensures.0 in
+    accepted ok (bytes_of c) refl rows.0 rows.1 laid c.put_order.ensures.1 c.put_header.ensures (decode_n _) (next_is _ ok c.ticket_after.ensures)

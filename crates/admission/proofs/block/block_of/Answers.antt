@@ -1,0 +1,8 @@
+-- Each field is what its reader says.
+use borrow.Author.Rules.{rules}
+use Rattle.model.specs.Admission.{block_of}
+use Rattle.admission.proofs.block.block_of.Goals as goal
+
+pub returns : goal.returns
+unfolding block_of
+returns c = cc

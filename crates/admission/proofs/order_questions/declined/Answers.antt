@@ -1,0 +1,6 @@
+-- No record stands beside a decline.
+use borrow.Author.Rules.{rules}
+use Rattle.admission.proofs.order_questions.declined.Goals as goal
+
+pub returns : goal.returns
+returns c = rw c.unused_order.ensures

@@ -1,0 +1,20 @@
+use mathlib.Core.Path.{◌≡◌, ◌∙◌}
+use Prim.Native.Nat.{◌≤◌, ◌-◌}
+use native.Mathlib.Omega.{arith}
+use borrow.Author.Rules.{rules}
+use Rattle.model.specs.Image.{orders_of}
+use Rattle.image_text.specs.Records.{tests_of_all}
+use Rattle.image_text.proofs.first_flaw.RecordLaws.{tested_none, tested_more}
+use Rattle.image_text.proofs.first_flaw.all_tested.Goals as goal
+
+pub loop-i-init : goal.loop-i-init
+loop-i-init c = (omega arith, tested_none _ _ _)
+
+pub loop-i-preserved : goal.loop-i-preserved
+loop-i-preserved c =
+    (omega arith, c.both-tests.ensures ∙ rw (c.tested.ensures, c.order_at-o.ensures, c.loop-i.invariant.1) (tested_more _ _ _ _))
+
+pub returns : goal.returns
+returns c =
+    let e : c.loop-i.i ≡ c.args.live = omega arith in
+    rw e at c.loop-i.invariant.1
