@@ -31,7 +31,7 @@ pub put_joined-requires : goal.put_joined-requires
 put_joined-requires c =
     let spare : live_count c.args.image.now < max_live = room c.requires (bytes_of c) in
     let ok = c.requires in
-    ((ok.whole, omega (arith, c.wide.ensures, spare)), λ i h. sums ok (bytes_of c) i (omega (arith, h, c.wide.ensures)))
+    record { image_len = (ok.whole, omega (arith, c.wide.ensures, spare)); by_index = λ i h. sums ok (bytes_of c) i (omega (arith, h, c.wide.ensures)) }
 
 pub overflow_mul-wide : goal.overflow_mul-wide
 overflow_mul-wide c =
@@ -46,7 +46,7 @@ overflow_add-wide c =
 pub put_order-requires : goal.put_order-requires
 put_order-requires c =
     let spare : live_count c.args.image.now < max_live = room c.requires (bytes_of c) in
-    omega (arith, c.wide-2.ensures, spare, c.requires.whole, stored_length c.put_joined.ensures.0)
+    omega (arith, c.wide-2.ensures, spare, c.requires.whole, stored_length c.put_joined.ensures.stored)
 
 pub overflow_add-live : goal.overflow_add-live
 overflow_add-live c =

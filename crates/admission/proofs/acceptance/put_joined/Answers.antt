@@ -21,7 +21,7 @@ joined_by-requires c =
     let read : c.order_at-o.result ≡ order_of (record_part c.args.image.now c.loop-i.i) = let loop = c.loop-i in
     c.order_at-o.ensures ∙ ap order_of (still loop.invariant.2 (omega arith)) in
     let sum = c.largest-top.ensures in
-    (sum.0, omega (arith, sum.0, ap (λ (o : Order). o.sum) (read), c.requires.1 c.loop-i.i (omega arith)))
+    (sum.0, omega (arith, sum.0, ap (λ (o : Order). o.sum) (read), c.requires.by_index c.loop-i.i (omega arith)))
 
 pub loop-i-preserved : goal.loop-i-preserved
 loop-i-preserved c =
@@ -36,4 +36,4 @@ returns c =
     let e : c.loop-i.i ≡ c.args.live = omega arith in
     let rows = rw e at inv.2 in
     let same = ap concat (joined_rows c.args.b (λ k. order_of (record_part c.args.image.now k)) c.args.live) in
-    (stored_same rows.stored same, sym (ap length same) ∙ rows.long)
+    record { stored = stored_same rows.stored same; live_len = sym (ap length same) ∙ rows.long }

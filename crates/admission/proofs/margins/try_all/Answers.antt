@@ -47,7 +47,7 @@ joined_by-requires c =
 
 pub margin-requires : goal.margin-requires
 margin-requires c =
-    (c.requires.0.1, subst (MarginFits _) (sym c.joined_by.ensures) (tryable c c.loop-i.i c.loop-i-test.true).fits)
+    (c.requires.live_le_max_live.1, subst (MarginFits _) (sym c.joined_by.ensures) (tryable c c.loop-i.i c.loop-i-test.true).fits)
 
 pub loop-i-preserved : goal.loop-i-preserved
 loop-i-preserved c =

@@ -20,25 +20,25 @@ use Rattle.admission.proofs.order_questions.answered.Goals as goal
 pub limits_of-l-requires : goal.limits_of-l-requires
 unfolding listed
 limits_of-l-requires c =
-    let facts = c.requires.0.sound.facts in
+    let facts = c.requires.sound_pipeline.sound.facts in
     (omega (arith, c.wide32.ensures, facts.n_low), omega (arith, c.wide32.ensures, facts.n_high))
 
 pub try_all-t-requires : goal.try_all-t-requires
 try_all-t-requires c =
     let n_is : c.limits_of-l.result.n ≡ c.args.p.n = ap (λ (l : Limits). l.n) c.limits_of-l.ensures ∙ c.wide32.ensures in
-    let limits-made : Made c.limits_of-l.result = made c.limits_of-l.ensures (omega (arith, c.wide32.ensures, c.requires.0.sound.facts.n_high)) in
-    ((omega (arith, c.wide.ensures, few c.requires.0), limits-made), live_tried c.requires.0 c.requires.1 (n_is) c.wide.ensures)
+    let limits-made : Made c.limits_of-l.result = made c.limits_of-l.ensures (omega (arith, c.wide32.ensures, c.requires.sound_pipeline.sound.facts.n_high)) in
+    record { live_le_max_live = (omega (arith, c.wide.ensures, few c.requires.sound_pipeline), limits-made); tryable = live_tried c.requires.sound_pipeline c.requires.fitting (n_is) c.wide.ensures }
 
 pub arrival-a-requires : goal.arrival-a-requires
 unfolding listed
-arrival-a-requires c = c.requires.1.due_tick
+arrival-a-requires c = c.requires.fitting.due_tick
 
 pub decide-decision-requires : goal.decide-decision-requires
 decide-decision-requires c =
     let n_is : c.limits_of-l.result.n ≡ c.args.p.n = ap (λ (l : Limits). l.n) c.limits_of-l.ensures ∙ c.wide32.ensures in
-    let limits-made : Made c.limits_of-l.result = made c.limits_of-l.ensures (omega (arith, c.wide32.ensures, c.requires.0.sound.facts.n_high)) in
+    let limits-made : Made c.limits_of-l.result = made c.limits_of-l.ensures (omega (arith, c.wide32.ensures, c.requires.sound_pipeline.sound.facts.n_high)) in
     let is-arrival : c.arrival-a.result ≡ defined.arrival (listed c.args.p) c.args.b = c.arrival-a.ensures ∙ arrival_is _ _ (n_is) c.wide.ensures c.try_all-t.ensures in
-    let fits : MarginFits c.limits_of-l.result.n c.arrival-a.result = arrival_tried c.requires.0 c.requires.1 (n_is) (is-arrival) in
+    let fits : MarginFits c.limits_of-l.result.n c.arrival-a.result = arrival_tried c.requires.sound_pipeline c.requires.fitting (n_is) (is-arrival) in
     (limits-made, fits)
 
 pub returns : goal.returns
@@ -46,7 +46,7 @@ unfolding listed
 returns c =
     let n_is : c.limits_of-l.result.n ≡ c.args.p.n = ap (λ (l : Limits). l.n) c.limits_of-l.ensures ∙ c.wide32.ensures in
     let is-arrival : c.arrival-a.result ≡ defined.arrival (listed c.args.p) c.args.b = c.arrival-a.ensures ∙ arrival_is _ _ (n_is) c.wide.ensures c.try_all-t.ensures in
-    let fits : MarginFits c.limits_of-l.result.n c.arrival-a.result = arrival_tried c.requires.0 c.requires.1 (n_is) (is-arrival) in
+    let fits : MarginFits c.limits_of-l.result.n c.arrival-a.result = arrival_tried c.requires.sound_pipeline c.requires.fitting (n_is) (is-arrival) in
     let n = n_is in
     let is = rw (n, is-arrival, to_z-of_z {w = w32} (record { sfits = c.struct_told-1.given.1.1.0.1 })) at c.decide-decision.ensures in
     let own = margin_fits _ _ (rw (n, is-arrival) at (fits)) in

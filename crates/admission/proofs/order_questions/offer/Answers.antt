@@ -111,7 +111,7 @@ answered-requires c =
     let state-is : listed c.decode.result ≡ decode (start_of (fits-of (else2-of c))).args.image.now = let fits = fits-of (else2-of c) in
     listed_is _ (bytes_of fits) (start_of fits).pre.1 c.decode.ensures in
     let fits = fits-of (else2-of c) in
-    (sound_pipeline _ (bytes_of fits) (start_of fits).pre.1 c.decode.ensures, subst (λ (s : State). Fitting s (start_of fits).args.b) (sym (state-is)) (fits_in))
+    record { sound_pipeline = sound_pipeline _ (bytes_of fits) (start_of fits).pre.1 c.decode.ensures; fitting = subst (λ (s : State). Fitting s (start_of fits).args.b) (sym (state-is)) (fits_in) }
 
 pub returns : goal.returns
 returns c =

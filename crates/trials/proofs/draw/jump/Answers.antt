@@ -1,0 +1,8 @@
+-- By the definition, in 64 bits.
+use Rattle.std.proofs.Common.{arith, rules}
+use Rattle.trials.specs.Draw.{apart}
+use Rattle.trials.proofs.draw.jump.Goals as goal
+
+pub returns : goal.returns
+unfolding apart
+returns c = rw c.wide.ensures.0

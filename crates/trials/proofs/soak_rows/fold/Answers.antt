@@ -1,0 +1,8 @@
+-- By the definition, in 64 bits.
+use Rattle.std.proofs.Common.{arith, rules}
+use Rattle.trials.specs.Digest.{folded}
+use Rattle.trials.proofs.soak_rows.fold.Goals as goal
+
+pub returns : goal.returns
+unfolding folded
+returns c = rw c.wide.ensures.0
