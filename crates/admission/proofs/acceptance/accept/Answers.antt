@@ -18,10 +18,6 @@ use Rattle.admission.specs.Acceptance.{Acceptable}
 use Rattle.admission.proofs.acceptance.AcceptLaws.{room, sums, accepted}
 use Rattle.admission.proofs.acceptance.accept.Goals as goal
 
--- The image's bytes are bytes, and it has an unused record.
-bytes_of : (c : tie.After-slice-known) → Below byte_limit c.before.args.image.now
-bytes_of c i = (c.slice-known.given i).fits
-
 -- The ticket after the arrival's is the next one.
 next_is : (image : List ℕ) {b : Block} {a : Order} {next : ℕ} → Acceptable image b a → next ≡ cond (eqb a.ticket last_ticket) 0 (a.ticket + 1) → next ≡ (accept (decode image) b).next
 unfolding accept arrival
@@ -29,33 +25,39 @@ next_is image ok e = e ∙ rw ok.arrives
 
 pub put_joined-requires : goal.put_joined-requires
 put_joined-requires c =
-    let spare : live_count c.args.image.now < max_live = room c.requires (bytes_of c) in
+    let bytes_of : Below byte_limit c.args.image.now = λ i. (c.slice_known-1.given i).fits in
+    let spare : live_count c.args.image.now < max_live = room c.requires (bytes_of) in
     let ok = c.requires in
-    record { image_len = (ok.whole, omega (arith, c.wide.ensures, spare)); by_index = λ i h. sums ok (bytes_of c) i (omega (arith, h, c.wide.ensures)) }
+    record { image_len = (ok.whole, omega (arith, c.wide.ensures, spare)); by_index = λ i h. sums ok (bytes_of) i (omega (arith, h, c.wide.ensures)) }
 
 pub overflow_mul-wide : goal.overflow_mul-wide
 overflow_mul-wide c =
-    let spare : live_count c.args.image.now < max_live = room c.requires (bytes_of c) in
+    let bytes_of : Below byte_limit c.args.image.now = λ i. (c.slice_known-1.given i).fits in
+    let spare : live_count c.args.image.now < max_live = room c.requires (bytes_of) in
     omega (arith, c.wide-2.ensures, spare)
 
 pub overflow_add-wide : goal.overflow_add-wide
 overflow_add-wide c =
-    let spare : live_count c.args.image.now < max_live = room c.requires (bytes_of c) in
+    let bytes_of : Below byte_limit c.args.image.now = λ i. (c.slice_known-1.given i).fits in
+    let spare : live_count c.args.image.now < max_live = room c.requires (bytes_of) in
     omega (arith, c.wide-2.ensures, spare)
 
 pub put_order-requires : goal.put_order-requires
 put_order-requires c =
-    let spare : live_count c.args.image.now < max_live = room c.requires (bytes_of c) in
+    let bytes_of : Below byte_limit c.args.image.now = λ i. (c.slice_known-1.given i).fits in
+    let spare : live_count c.args.image.now < max_live = room c.requires (bytes_of) in
     omega (arith, c.wide-2.ensures, spare, c.requires.whole, stored_length c.put_joined.ensures.stored)
 
 pub overflow_add-live : goal.overflow_add-live
 overflow_add-live c =
-    let spare : live_count c.args.image.now < max_live = room c.requires (bytes_of c) in
+    let bytes_of : Below byte_limit c.args.image.now = λ i. (c.slice_known-1.given i).fits in
+    let spare : live_count c.args.image.now < max_live = room c.requires (bytes_of) in
     omega (arith, spare)
 
 pub returns : goal.returns
 returns c =
+    let bytes_of : Below byte_limit c.args.image.now = λ i. (c.slice_known-1.given i).fits in
     let ok = c.requires in
     let rows = rw c.wide.ensures at c.put_joined.ensures in
     let laid = rw c.wide-2.ensures at c.put_order.ensures.0 in
-    accepted ok (bytes_of c) refl rows.0 rows.1 laid c.put_order.ensures.1 c.put_header.ensures (decode_n _) (next_is _ ok c.ticket_after.ensures)
+    accepted ok (bytes_of) refl rows.stored rows.live_len laid c.put_order.ensures.1 c.put_header.ensures (decode_n _) (next_is _ ok c.ticket_after.ensures)

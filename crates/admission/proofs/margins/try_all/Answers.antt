@@ -22,45 +22,53 @@ use Rattle.admission.specs.Margins.{MarginFits, Tryable}
 use Rattle.admission.proofs.margins.LeastLaws.{smallest_start, smallest_more}
 use Rattle.admission.proofs.margins.try_all.Goals as goal
 
--- A live order that is tried is one of the first `live`.
-tryable : (c : tie.Start invariant-loop decreases-loop) (i : ℕ) → i < c.args.live → Tryable c.args.l.n c.args.b (get_or c.args.t3 i past)
-tryable c i h =
-    let orders = c.args.t3 in
-    let live = c.args.live in
-    let long : length orders ≡ 32 = search rules in
-    let few : live ≤ 32 = c.requires.0.0 in
-    let here = get_d_in (take live orders) past i (omega (arith, length-take-le live orders (omega (arith, few, long)), h)) in
-    rw (get_or-take live orders i past h) at (c.requires.1 (get_or (take live orders) i past) here)
-
 pub loop-i-init : goal.loop-i-init
 loop-i-init c = (omega arith, omega arith, search rules, c.largest-top.ensures.0 ∙ sum_start _ _, maxima_start _ _, smallest_start _ _)
 
 pub returns-then-o-eq0 : goal.returns-then-o-eq0
 returns-then-o-eq0 c =
-    absurd (let z : ⊥ = omega (arith, c.if-o-eq0.true, (tryable c c.loop-i.i c.loop-i-test.true).named) in z)
+    let tryable : (i : ℕ) → i < c.args.live → Tryable c.args.l.n c.args.b (get_or c.args.orders i past) = λ i h. let orders = c.args.orders in
+    let live = c.args.live in
+    let long : length orders ≡ 32 = search rules in
+    let few : live ≤ 32 = c.requires.live_le_max_live.0 in
+    let here = get_d_in (take live orders) past i (omega (arith, length-take-le live orders (omega (arith, few, long)), h)) in
+    rw (get_or-take live orders i past h) at (c.requires.tryable (get_or (take live orders) i past) here) in
+    absurd (let z : ⊥ = omega (arith, c.if-o-eq0.true, (tryable c.loop-i.i c.loop-i-test.true).named) in z)
 
 pub joined_by-requires : goal.joined_by-requires
 unfolding bound_tick delay_bound joined_by
 joined_by-requires c =
+    let tryable : (i : ℕ) → i < c.args.live → Tryable c.args.l.n c.args.b (get_or c.args.orders i past) = λ i h. let orders = c.args.orders in
+    let live = c.args.live in
+    let long : length orders ≡ 32 = search rules in
+    let few : live ≤ 32 = c.requires.live_le_max_live.0 in
+    let here = get_d_in (take live orders) past i (omega (arith, length-take-le live orders (omega (arith, few, long)), h)) in
+    rw (get_or-take live orders i past h) at (c.requires.tryable (get_or (take live orders) i past) here) in
     let top = c.largest-top.ensures.0 in
-    (top, omega (arith, top, (tryable c c.loop-i.i c.loop-i-test.true).fits.tick))
+    (top, omega (arith, top, (tryable c.loop-i.i c.loop-i-test.true).fits.tick))
 
 pub margin-requires : goal.margin-requires
 margin-requires c =
-    (c.requires.live_le_max_live.1, subst (MarginFits _) (sym c.joined_by.ensures) (tryable c c.loop-i.i c.loop-i-test.true).fits)
+    let tryable : (i : ℕ) → i < c.args.live → Tryable c.args.l.n c.args.b (get_or c.args.orders i past) = λ i h. let orders = c.args.orders in
+    let live = c.args.live in
+    let long : length orders ≡ 32 = search rules in
+    let few : live ≤ 32 = c.requires.live_le_max_live.0 in
+    let here = get_d_in (take live orders) past i (omega (arith, length-take-le live orders (omega (arith, few, long)), h)) in
+    rw (get_or-take live orders i past h) at (c.requires.tryable (get_or (take live orders) i past) here) in
+    (c.requires.live_le_max_live.1, subst (MarginFits _) (sym c.joined_by.ensures) (tryable c.loop-i.i c.loop-i-test.true).fits)
 
 pub loop-i-preserved : goal.loop-i-preserved
 loop-i-preserved c =
     let inv = c.loop-i.invariant in
     let own : ℕ → List ℕ = λ j. (get_or c.args.orders j past).costs in
     let sum = c.largest-sum.ensures in
-    let read = to_z-of_z {w = w32} (record { sfits = c.margin.type-inv }) ∙ c.margin.ensures ∙ ap (delay.margin _) c.joined_by.ensures in (
+    let read = to_z-of_z {w = w32} (record { sfits = c.margin.type_inv }) ∙ c.margin.ensures ∙ ap (delay.margin _) c.joined_by.ensures in (
       omega (arith, c.loop-i-test.true),
       omega (arith, sum.1, inv.1),
       search rules,
       rw (sum.0, inv.3) (sym (sum_more c.args.b.costs own c.loop-i.i)),
       c.larger_row-more.ensures ∙ rw inv.4 (sym (maxima_more c.args.b.costs own c.loop-i.i)),
-      to_z-of_z {w = w32} (record { sfits = c.smaller-least.type-inv }) ∙ smallest_more _ _ _ inv.5 read c.smaller-least.ensures,
+      to_z-of_z {w = w32} (record { sfits = c.smaller-least.type_inv }) ∙ smallest_more _ _ _ inv.5 read c.smaller-least.ensures,
     )
 
 pub returns : goal.returns

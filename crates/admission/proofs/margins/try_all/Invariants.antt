@@ -24,7 +24,7 @@ use Rattle.admission.proofs.margins.LeastLaws.{smallest_start, smallest_more}
 use Rattle.admission.proofs.margins.try_all.Given as goal
 
 abbrev pub invariant-loop-i : goal.invariant-loop-i
-invariant-loop-i l = (l.i ≤ l.live) × (l.sum < 65536 * (l.i + 1)) × (length l.maxima ≡ 8) × (l.sum ≡ sum_of (l.b.costs ∷ upward 0 l.i (λ k. (get_or l.orders k past).costs))) × (l.maxima ≡ maxima_of (l.b.costs ∷ upward 0 l.i (λ k. (get_or l.orders k past).costs))) × (to_z w32 l.least ≡ smallest (pos 2147483647) (upward 0 l.i (λ k. delay.margin l.l.n (joined_by l.b (get_or l.orders k past)))))
+invariant-loop-i l = (l.i ≤ l.live) × (l.sum < 65536 * (l.i + 1)) × (length l.maxima ≡ 8) × (l.sum ≡ sum_of (l.b.costs ∷ upward 0 l.i (λ k. (get_or l.orders k past).costs))) × (l.maxima ≡ maxima_of (l.b.costs ∷ upward 0 l.i (λ k. (get_or l.orders k past).costs))) × (l.least ≡ smallest (pos 2147483647) (upward 0 l.i (λ k. delay.margin l.l.n (joined_by l.b (get_or l.orders k past)))))
 
 abbrev pub decreases-loop-i : goal.decreases-loop-i
 decreases-loop-i l = l.live - l.i

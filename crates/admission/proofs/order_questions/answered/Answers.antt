@@ -24,6 +24,7 @@ limits_of-l-requires c =
     (omega (arith, c.wide32.ensures, facts.n_low), omega (arith, c.wide32.ensures, facts.n_high))
 
 pub try_all-t-requires : goal.try_all-t-requires
+unfolding listed
 try_all-t-requires c =
     let n_is : c.limits_of-l.result.n ≡ c.args.p.n = ap (λ (l : Limits). l.n) c.limits_of-l.ensures ∙ c.wide32.ensures in
     let limits-made : Made c.limits_of-l.result = made c.limits_of-l.ensures (omega (arith, c.wide32.ensures, c.requires.sound_pipeline.sound.facts.n_high)) in
@@ -34,6 +35,7 @@ unfolding listed
 arrival-a-requires c = c.requires.fitting.due_tick
 
 pub decide-decision-requires : goal.decide-decision-requires
+unfolding listed
 decide-decision-requires c =
     let n_is : c.limits_of-l.result.n ≡ c.args.p.n = ap (λ (l : Limits). l.n) c.limits_of-l.ensures ∙ c.wide32.ensures in
     let limits-made : Made c.limits_of-l.result = made c.limits_of-l.ensures (omega (arith, c.wide32.ensures, c.requires.sound_pipeline.sound.facts.n_high)) in
