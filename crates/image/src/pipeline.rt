@@ -7,7 +7,7 @@ ghost use Rattle.image.specs.Pipeline.{unused};
 use model::{Order, Service};
 
 // The state that code carries: as the definitions have it, with room for 32 records, of which the first `live` are in use.
-#[derive(Drop)]
+#[derive(Clone, Copy)]
 pub struct Pipeline {
     pub n: u8,
     pub live: u8,

@@ -1,5 +1,5 @@
 -- A log that is written is read back, and a log of the form is the one that is written from what is read. By its lines, each by the laws of its kind.
-use mathlib.Core.Path.{◌≡◌, refl, sym, ◌∙◌}
+use mathlib.Core.Path.{◌≡◌, refl, sym, ap, ◌∙◌}
 use mathlib.Core.Bool.{Bool, true, false, true≢false}
 use mathlib.Core.List.{List, [], ◌∷◌, ◌++◌, map, append-nil}
 use Prim.Native.Nat.{ℕ, suc, ◌≤◌}
@@ -62,12 +62,23 @@ pub record ReadBack (n : ℕ) (calls : List Line) : Type 0 where
   pub stations : stations_in (written_log n calls) ≡ n
   pub same_calls : calls_in (written_log n calls) ≡ calls
 
+-- What is asked of the lines in turn: the first says n stations, and each of the others is asked whether it is a call's.
+tests_written :
+    (n : ℕ) (calls : List Line) → 1 ≤ n → n ≤ max_stations → formed (lines (written_log n calls)) ++ unended (last_of (parts line_feed (written_log n calls))) ≡ true ∷ map (is_call n) (map call_bytes calls)
+unfolding formed unended
+tests_written n calls low high =
+    rw (log_lines n calls, log_end n calls, append-nil (map (is_call (stations_of (stations_bytes n))) (map call_bytes calls)))
+    (
+    ap (λ (k : ℕ). is_stations (stations_bytes n) ∷ map (is_call k) (map call_bytes calls)) (stations_read n)
+    ∙ ap (λ (b : Bool). b ∷ map (is_call n) (map call_bytes calls)) (stations_written n low high)
+    )
+
 pub read_back : (n : ℕ) (calls : List Line) → 1 ≤ n → n ≤ max_stations → AllFit n calls → ReadBack n calls
-unfolding refused_at formed unended stations_in calls_in all
+unfolding refused_at stations_in calls_in all
 read_back n calls low high fit =
     record {
       has_form =
-          rw (log_lines n calls, log_end n calls, stations_read n, stations_written n low high, append-nil (map (is_call n) (map call_bytes calls)))
+          rw (tests_written n calls low high)
           (none_refused 1 (true ∷ map (is_call n) (map call_bytes calls)) (calls_written n calls fit));
       stations = rw (log_lines n calls) (stations_read n);
       same_calls = rw (log_lines n calls, stations_read n) (calls_read n calls fit);

@@ -1,19 +1,14 @@
 -- Loops over the stations, and the entry of a station by its place.
 use mathlib.Core.Path.{◌≡◌}
 use mathlib.Core.Bool.{cond}
-use mathlib.Core.List.{List, ◌++◌, map, append-nil}
+use mathlib.Core.List.{List}
 use Prim.Native.Nat.{ℕ, zero, suc, ◌-◌, ◌≤◌}
 use native.Mathlib.Omega.{arith}
-use lib.ListN.{length, get_or, take, drop, drop_of_length-le}
-use lib.Seq.{take_all}
+use lib.ListN.{get_or}
 use Rattle.model.specs.declared.Service.{Service}
 use Rattle.model.specs.Lists.{at, is_zero}
 use Rattle.model.specs.State.{idle}
 use Rattle.model.specs.Tick.{ticket_out}
-
--- Every entry has been replaced.
-pub replaced_all : {A : Type 0} (f : A → A) (l : List A) (n : ℕ) → length l ≡ n → map f (take n l) ++ drop n l ≡ map f l
-replaced_all f l n h = rw (take_all n l (omega arith), drop_of_length-le l {i = n} (omega arith)) (append-nil (map f l))
 
 -- Station k is at place k - 1.
 pub at_place : {A : Type 0} (d : A) (l : List A) (k : ℕ) → 1 ≤ k → at d l k ≡ get_or l (k - 1) d

@@ -1,14 +1,9 @@
 -- The first entries are one tick on, the rest as they were.
-use mathlib.Core.Path.{◌≡◌, refl, ap, ◌∙◌}
+use mathlib.Core.Path.{◌≡◌}
 use mathlib.Core.List.{◌++◌, map}
 use Prim.Native.Nat.{◌≤◌, ◌-◌}
-use native.Mathlib.Omega.{arith}
-use lib.ListN.{length, length-set, get_or, take, drop}
-use borrow.Author.Rules.{rules}
-use Rattle.model.specs.State.{idle}
+use lib.ListN.{length, take, drop}
 use Rattle.model.specs.Tick.{one_less}
-use Rattle.lists.proofs.Fills.{replaced_read, replaced_next}
-use Rattle.tick.proofs.entries.StationLaws.{replaced_all}
 use Rattle.tick.proofs.entries.tick_all.Given as goal
 
 abbrev pub invariant-loop-k : goal.invariant-loop-k

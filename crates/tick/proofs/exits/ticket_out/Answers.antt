@@ -1,6 +1,5 @@
 -- The last station's entry, by the test.
 use borrow.Author.Tests.{ne_eqb}
-use borrow.Author.Rules.{rules}
 use Rattle.tick.proofs.entries.StationLaws.{out_at_lem}
 use Rattle.tick.proofs.exits.ticket_out.Goals as goal
 

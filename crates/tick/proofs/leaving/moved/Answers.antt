@@ -1,5 +1,4 @@
 -- The record with its station set.
-use borrow.Author.Rules.{rules}
 use Rattle.model.specs.Tick.{move_to}
 use Rattle.tick.specs.Leaving.{moved_by}
 use Rattle.tick.proofs.leaving.moved.Goals as goal

@@ -1,14 +1,9 @@
 -- Record by record from place `kept` to the last live one.
 use mathlib.Core.Path.{◌≡◌}
 use Prim.Native.Nat.{◌+◌, ◌-◌, ◌*◌, ◌≤◌}
-use native.Mathlib.Nat.{sub_self}
-use native.Mathlib.Omega.{arith}
 use lib.ListN.{length, replicate}
-use borrow.Author.Rules.{rules}
 use Rattle.model.specs.Layout.{image_size, records_at, record_size}
 use Rattle.lists.specs.Stored.{Stored}
-use Rattle.lists.proofs.Stores.{stored_none}
-use Rattle.tick.proofs.leaving.LeaveLaws.{unused_more}
 use Rattle.tick.proofs.leaving.put_unused.Given as goal
 
 abbrev pub invariant-loop-j : goal.invariant-loop-j

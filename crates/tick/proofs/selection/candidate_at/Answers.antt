@@ -1,6 +1,5 @@
 -- The candidate's figures are read at the place that the definition names.
 use mathlib.Core.Path.{refl}
-use borrow.Author.Rules.{rules}
 use Rattle.model.specs.Tick.{view}
 use Rattle.tick.specs.Selection.{candidate_of}
 use Rattle.tick.proofs.selection.candidate_at.Goals as goal

@@ -1,18 +1,10 @@
 use mathlib.Core.Path.{◌≡◌, ◌∙◌}
-use Prim.Native.Nat.{◌≤◌, ◌-◌}
 use native.Mathlib.Omega.{arith}
-use lib.ListN.{length, length-set, get_or, take}
+use lib.ListN.{length-set}
 use borrow.Author.Rules.{rules}
-use Rattle.model.specs.Lists.{upward}
-use Rattle.model.specs.State.{idle}
 use Rattle.lists.proofs.Fills.{fill_start, fill_next, fill_end}
-use Rattle.tick.specs.Selection.{nobody}
-use Rattle.tick.specs.Starting.{start_with}
 use Rattle.tick.proofs.starting.StartLaws.{each_start}
 use Rattle.tick.proofs.starting.start_all.Goals as goal
-
-services_long : (c : tie.Start invariant-loop decreases-loop) → length c.args.t2 ≡ 8
-services_long c = search rules
 
 pub loop-k-init : goal.loop-k-init
 loop-k-init c = (search rules, search rules, fill_start _)
@@ -26,4 +18,4 @@ pub returns : goal.returns
 returns c =
     let inv = c.loop-k.invariant in
     let e : c.loop-k.k ≡ 8 = omega arith in
-    fill_end _ _ 8 inv.1 (rw e at inv.2) ∙ each_start _ _ (services_long c)
+    fill_end _ _ 8 inv.1 (rw e at inv.2) ∙ each_start _ _ (search rules)

@@ -1,15 +1,11 @@
 -- An array filled from the front: at each place the start of the station there.
-use mathlib.Core.Path.{◌≡◌, ◌∙◌}
+use mathlib.Core.Path.{◌≡◌}
 use Prim.Native.Nat.{◌≤◌, ◌-◌}
-use native.Mathlib.Omega.{arith}
-use lib.ListN.{length, length-set, get_or, take}
-use borrow.Author.Rules.{rules}
+use lib.ListN.{length, get_or, take}
 use Rattle.model.specs.Lists.{upward}
 use Rattle.model.specs.State.{idle}
-use Rattle.lists.proofs.Fills.{fill_start, fill_next, fill_end}
 use Rattle.tick.specs.Selection.{nobody}
 use Rattle.tick.specs.Starting.{start_with}
-use Rattle.tick.proofs.starting.StartLaws.{each_start}
 use Rattle.tick.proofs.starting.start_all.Given as goal
 
 abbrev pub invariant-loop-k : goal.invariant-loop-k

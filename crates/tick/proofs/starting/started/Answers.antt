@@ -1,7 +1,6 @@
 -- The candidates, and the starts with them.
 use mathlib.Core.Path.{ap, ◌∙◌}
 use mathlib.Core.List.{List}
-use borrow.Author.Rules.{rules}
 use Rattle.tick.specs.declared.selection.Candidate.{Candidate}
 use Rattle.tick.specs.Starting.{start_all}
 use Rattle.tick.proofs.starting.StartLaws.{starts_all}

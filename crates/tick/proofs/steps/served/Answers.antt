@@ -1,5 +1,4 @@
 -- The steps in turn, each by what it ensures.
-use borrow.Author.Rules.{rules}
 use Rattle.tick.proofs.steps.ServedLaws.{queue, put_together}
 use Rattle.tick.proofs.steps.served.Goals as goal
 

@@ -1,0 +1,48 @@
+-- As a quote by format, by the offer's call.
+use mathlib.Core.Path.{◌≡◌, sym, ◌∙◌}
+use mathlib.Core.List.{◌∷◌, ◌++◌}
+use borrow.Author.Rules.{rules}
+use Rattle.model.specs.Image.{decode}
+use Rattle.model.specs.Questions.{first_no}
+use Rattle.model.specs.Formats.{FormatOrder, format_questions}
+use Rattle.model.specs.Calls.{reply_question, image_questions}
+use Rattle.image_laws.proofs.Questions.{replied}
+use Rattle.image_laws.proofs.Read.{decode_n}
+use Rattle.admission.specs.Formats.{held_block}
+use Rattle.dispatcher.proofs.format_parts.SheetLaws.{format_usable, readable, offer_taken_lem, offer_declined}
+use Rattle.dispatcher.proofs.format_parts.HeldLaws.{offer_held}
+use Rattle.dispatcher.proofs.format.dispatcher_offer_format.Goals as goal
+
+pub put_decline-requires : goal.put_decline-requires
+put_decline-requires c = λ other.
+    replied _ _ (λ e. other (c.first_format_number-number.ensures ∙ e))
+
+pub returns-then-number-ne0 : goal.returns-then-number-ne0
+returns-then-number-ne0 c =
+    rw c.put_decline.ensures (offer_declined _ _ _ c.first_format_number-number.result c.first_format_number-number.ensures c.if-number-ne0.true)
+
+pub bounds-image-5 : goal.bounds-image-5
+bounds-image-5 c =
+    let order : FormatOrder = record { format = c.args.format; due_in = c.args.due_in; rank = c.args.rank; sheet = c.args.sheet.now } in
+    let all_pass : first_no (reply_question c.args.reply.now ∷ image_questions c.args.image.now ++ format_questions (decode c.args.image.now).n c.args.format c.args.sheet.now) ≡ 0 = sym c.first_format_number-number.ensures ∙ c.if-number-ne0.false in
+    let whole = (format_usable _ order _ (all_pass)).image_whole in search rules
+
+pub block_from-requires : goal.block_from-requires
+block_from-requires c =
+    let all_pass : first_no (reply_question c.args.reply.now ∷ image_questions c.args.image.now ++ format_questions (decode c.args.image.now).n c.args.format c.args.sheet.now) ≡ 0 = sym c.first_format_number-number.ensures ∙ c.if-number-ne0.false in
+    rw (c.wide32-n.ensures, decode_n _) (readable _ _ _ (all_pass))
+
+pub offered-requires : goal.offered-requires
+offered-requires c =
+    let order : FormatOrder = record { format = c.args.format; due_in = c.args.due_in; rank = c.args.rank; sheet = c.args.sheet.now } in
+    let all_pass : first_no (reply_question c.args.reply.now ∷ image_questions c.args.image.now ++ format_questions (decode c.args.image.now).n c.args.format c.args.sheet.now) ≡ 0 = sym c.first_format_number-number.ensures ∙ c.if-number-ne0.false in
+    format_usable _ (order) _ (all_pass)
+
+pub returns : goal.returns
+returns c =
+    let order : FormatOrder = record { format = c.args.format; due_in = c.args.due_in; rank = c.args.rank; sheet = c.args.sheet.now } in
+    let all_pass : first_no (reply_question c.args.reply.now ∷ image_questions c.args.image.now ++ format_questions (decode c.args.image.now).n c.args.format c.args.sheet.now) ≡ 0 = sym c.first_format_number-number.ensures ∙ c.if-number-ne0.false in
+    let f = order in
+    let pass = all_pass in
+    let block_is : c.block_from.result ≡ held_block (decode c.args.image.now).n f = rw (← decode_n _, ← c.wide32-n.ensures) c.block_from.ensures in
+    rw (← offer_taken_lem _ f _ pass, ← offer_held _ f _ (readable _ f _ pass), ← block_is) c.offered.ensures
