@@ -19,7 +19,7 @@ const NINE: u8 = b'9';
 pub const MAX_FIELDS: usize = 19;
 
 // What a word says: a number, or that it is none that fits.
-#[derive(Drop)]
+#[derive(Clone, Copy)]
 pub enum Value {
     Number(u32),
     Malformed,
@@ -27,7 +27,7 @@ pub enum Value {
 
 // The values of a line's fields, with zeros after them, or zeros alone where it has not the form. (An enum that holds an array is not
 // covered by the borrow checker.)
-#[derive(Drop)]
+#[derive(Clone, Copy)]
 pub struct Fields {
     pub formed: bool,
     pub values: [u32; MAX_FIELDS],

@@ -8,7 +8,7 @@ pub mod limits; // the figures
 // What the lines that have ended make of a log: the number of the line that is read, from 1, or 0 when lines are no longer
 // counted; N, once the first line has ended; the numbers of the first line of another form and of the first that disagrees, or
 // 0; the ticks that passed, and those in which each station was busy.
-#[derive(Drop)]
+#[derive(Clone, Copy)]
 pub struct Rerun {
     pub line: u64,
     pub stations: u32,

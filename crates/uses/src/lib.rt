@@ -3,4 +3,3 @@
 // shortened is then refused here, although the statement and its proof agree. For an ⇔ both ways are taken; what is said of every list of calls is taken at
 // 2 stations and at 8. Demand 3 is also computed for definite lists, without its proof.
 #![tactic(auto)]
-
