@@ -20,7 +20,7 @@ pub struct Rerun {
 
 // The state of a log that is read: the line that has not ended yet stands in the first `held` bytes of `pending`; of one that
 // is longer than any line of the form, the first 220 bytes.
-#[derive(Drop)]
+#[derive(Clone, Copy)]
 pub struct Reading {
     pub rerun: Rerun,
     pub pending: [u8; 220],
