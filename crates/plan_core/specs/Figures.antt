@@ -1,6 +1,5 @@
 -- Bases and responses over plain numbers.
-use Rattle.core.specs.Prelude.{slice_index}
-use Rattle.std.specs.Prelude.{List, ◌++◌, ℕ, ◌+◌, ◌-◌, ◌*◌, ◌≤◌, get_or, replicate}
+use Rattle.std.specs.Prelude.{List, ◌++◌, ℕ, ◌+◌, ◌-◌, ◌*◌, ◌≤◌, slice_index, replicate}
 use Rattle.model.specs.Limits.{max_stations, max_cost}
 use Rattle.model.specs.Lists.{total, upward}
 use Rattle.plan_model.specs.Limits.{max_tasks}

@@ -1,6 +1,5 @@
 -- The figures of the tasks as plain numbers, and the records that they are filled into.
-use Rattle.core.specs.Prelude.{slice_index}
-use Rattle.std.specs.Prelude.{List, ◌++◌, ℕ, get_or, take, drop}
+use Rattle.std.specs.Prelude.{List, ◌++◌, ℕ, slice_index, take, drop}
 use Rattle.model.specs.Lists.{numbered}
 use Rattle.plan_model.specs.declared.Task.{Task}
 use Rattle.plan_model.specs.Plan.{with_figures}

@@ -1,6 +1,5 @@
 -- The step of the response iteration over plain numbers: what replaces R for task t of the first count tasks, by their periods, deadlines and largest costs.
-use Rattle.core.specs.Prelude.{slice_index}
-use Rattle.std.specs.Prelude.{List, ℕ, ◌+◌, ◌*◌, ◌≤◌, ◌<◌, get_or}
+use Rattle.std.specs.Prelude.{List, ℕ, ◌+◌, ◌*◌, ◌≤◌, ◌<◌, slice_index}
 use Rattle.model.specs.Limits.{max_cost}
 use Rattle.model.specs.Lists.{total, upward}
 use Rattle.plan_model.specs.Limits.{max_period}

@@ -65,7 +65,7 @@ fn plan_first(tasks: [Task; 32], held: usize, n: u32) -> Planned
     pack(number, list)
 }
 
-// Plan over the first records of an array, by value: its callers hold no reference to a struct, and need no walk. The array has 32
+// Plan over the first records of an array, by value: its callers hold no reference to a struct. The array has 32
 // records, and a larger count is all of them. Ruled out: the figures of 31 tasks for 32; a record after the first ones changed.
 pub fn plan_array(tasks: [Task; 32], count: usize, n: u32) -> Planned
     ensures { (result.number ≡ plan_number n (take count tasks)) × (result.tasks ≡ after_plan n (take count tasks) ++ drop count tasks) }

@@ -5,7 +5,7 @@
 pub mod limits; // the figures
 
 // "On time means R repeats below the deadline".
-#[derive(Drop)]
+#[derive(Clone, Copy)]
 pub enum Verdict {
     OnTime,
     Late,
@@ -13,7 +13,7 @@ pub enum Verdict {
 
 // Period, deadline and costs are asked; base, response and verdict are what plan fills in. The response has 64 bits: it can
 // reach 8,928,048,000.
-#[derive(Drop)]
+#[derive(Clone, Copy)]
 pub struct Task {
     pub period: u32,
     pub deadline: u32,

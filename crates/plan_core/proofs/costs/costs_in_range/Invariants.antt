@@ -1,0 +1,13 @@
+-- The test of the entries so far.
+use mathlib.Core.Path.{◌≡◌}
+use Prim.Native.Nat.{◌≤◌, ◌-◌}
+use lib.ListN.{take}
+use Rattle.model.specs.Limits.{max_cost}
+use Rattle.model.specs.Lists.{within, all}
+use Rattle.plan_core.proofs.costs.costs_in_range.Given as goal
+
+abbrev pub invariant-loop-k : goal.invariant-loop-k
+invariant-loop-k l = (l.k ≤ l.stations) × (l.holds ≡ all (within 1 max_cost) (take l.k l.costs))
+
+abbrev pub decreases-loop-k : goal.decreases-loop-k
+decreases-loop-k l = l.stations - l.k
