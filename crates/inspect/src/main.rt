@@ -7,10 +7,10 @@ use image::layout::IMAGE_SIZE;
 // One byte more than an image has, so that a longer input is seen to be longer.
 const MOST: usize = IMAGE_SIZE + 1;
 
-fn main() {
+fn main(rt: HostRuntime) {
     let mut input = [0u8; MOST];
-    let size = io::read_full(0, &mut input);
+    let size = console::read_full(&mut rt.stdin(), &mut input);
     let mut out = [0u8; 8192];
     let end = image_text::explanation::explain(&input[..size], &mut out);
-    io::write_all(1, &out[..end]);
+    console::write_all(&mut rt.stdout(), &out[..end]);
 }

@@ -7,10 +7,10 @@ use plan_model::limits::MAX_INPUT;
 // One byte more than an input may have, so that a longer input is seen to be longer.
 const MOST: usize = MAX_INPUT + 1;
 
-fn main() {
+fn main(rt: HostRuntime) {
     let mut input = [0u8; MOST];
-    let size = io::read_full(0, &mut input);
+    let size = console::read_full(&mut rt.stdin(), &mut input);
     let mut out = [0u8; 1024];
     let end = plan_text::print::print_plan(&input[..size], &mut out);
-    io::write_all(1, &out[..end]);
+    console::write_all(&mut rt.stdout(), &out[..end]);
 }

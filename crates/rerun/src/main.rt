@@ -7,6 +7,10 @@ ghost use Rattle.log_reader.specs.Reached.{Reached};
 
 use image::layout::IMAGE_SIZE;
 use log_model::Reading;
+use std::io::Read;
+
+// Of a log that is long this much is read at a time.
+const CHUNK: usize = 65536;
 
 // What was fed, and whether there may be more.
 #[derive(Drop)]
@@ -17,17 +21,21 @@ struct Progress {
 
 // Reads once and feeds what came. A read that fails is the end, and so is one that gives nothing. Ruled out: a state that no bytes lead to;
 // the state before, with an image that has changed.
-fn turn(s: Reading, image: &mut [u8; IMAGE_SIZE], buf: &mut [u8]) -> Progress
+fn turn<R: Read>(
+    input: &mut R,
+    s: Reading,
+    image: &mut [u8; IMAGE_SIZE],
+    buf: &mut [u8],
+) -> Progress
     ensures { Reached (record { reading = s; image = image.old }) (record { reading = result.reading; image = image.new }) }
 {
-    let got = libc::read(0, buf);
-    if got <= 0 {
+    let n = console::read_some(input, buf);
+    if n == 0 {
         return Progress {
             reading: s,
             more: false,
         };
     }
-    let n = io::count(got, buf);
     let fed = log_reader::feed::feed(s, image, &buf[..n]);
     Progress {
         reading: fed,
@@ -35,30 +43,27 @@ fn turn(s: Reading, image: &mut [u8; IMAGE_SIZE], buf: &mut [u8]) -> Progress
     }
 }
 
-// Reads to the end. A proved loop has to end, so it counts its turns down, from a number that no run uses up. Ruled out: a state that is
+// Reads to the end. A proved loop has to end, so it counts its turns, up to a number that no run uses up. Ruled out: a state that is
 // reached from another start; one that no bytes lead to.
-fn read_all(image: &mut [u8; IMAGE_SIZE]) -> Reading
+fn read_all<R: Read>(input: &mut R, image: &mut [u8; IMAGE_SIZE]) -> Reading
     ensures { Reached (record { reading = begun; image = image.old }) (record { reading = result; image = image.new }) }
 {
-    let mut buf = io::large_buffer();
+    let mut buf = [0u8; CHUNK];
     let mut s = log_reader::feed::begin();
-    let mut turns = u64::MAX;
-    while turns > 0 {
-        let t = turn(s, image, &mut buf);
-        let fed = t.reading;
-        s = fed;
+    for _ in 0..u64::MAX {
+        let t = turn(input, s, image, &mut buf);
+        s = t.reading;
         if !t.more {
-            return s;
+            break;
         }
-        turns -= 1;
     }
     s
 }
 
-fn main() {
+fn main(rt: HostRuntime) {
     let mut image = [0u8; IMAGE_SIZE];
-    let s = read_all(&mut image);
+    let s = read_all(&mut rt.stdin(), &mut image);
     let mut out = [0u8; 256];
     let end = log_reader::print::print(s, &mut out);
-    io::write_all(1, &out[..end]);
+    console::write_all(&mut rt.stdout(), &out[..end]);
 }

@@ -12,6 +12,7 @@ use dispatcher::offer::{dispatcher_offer, dispatcher_quote};
 use dispatcher::open::dispatcher_open;
 use image::layout::{CLOCK_AT, IMAGE_SIZE, LIVE_COUNT_AT, REPLY_SIZE, REPLY_TICKET_AT};
 use image::reader::u32_at;
+use std::io::Write;
 use trials::draw::{draw_order, pick, step};
 use trials::soak_rows::{Run, count, fold_all};
 
@@ -109,7 +110,7 @@ fn wide(x: u8) -> u32 {
     x as u32
 }
 
-fn print(image: &[u8; IMAGE_SIZE], n: usize, run: Run)
+fn print<W: Write>(output: &mut W, image: &[u8; IMAGE_SIZE], n: usize, run: Run)
     requires { n ≤ max_stations }
 {
     let clock = u32_at(image, CLOCK_AT);
@@ -117,11 +118,11 @@ fn print(image: &[u8; IMAGE_SIZE], n: usize, run: Run)
     let mut out = [0u8; 160];
     let values = trials::soak_rows::values_of(n as u32, clock, live, run);
     let end = trials::soak_rows::put_row(&mut out, values);
-    io::write_all(1, &out[..end]);
+    console::write_all(output, &out[..end]);
 }
 
 // All calls in a pipeline of n stations, which is also the seed.
-fn pipeline(n: usize)
+fn pipeline<W: Write>(output: &mut W, n: usize)
     requires { (1 ≤ n) × (n ≤ max_stations) }
 {
     let mut image = [0u8; IMAGE_SIZE];
@@ -131,15 +132,16 @@ fn pipeline(n: usize)
     let mut row = 0;
     while row < ROWS {
         run = stretch(&mut image, &mut reply, n, run);
-        print(&image, n, run);
+        print(output, &image, n, run);
         row += 1;
     }
 }
 
-fn main() {
+fn main(rt: HostRuntime) {
+    let output = &mut rt.stdout();
     let mut n = 1;
     while n <= PIPELINES {
-        pipeline(n);
+        pipeline(output, n);
         n += 1;
     }
 }
