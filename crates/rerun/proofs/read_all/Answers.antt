@@ -1,0 +1,12 @@
+-- Nothing is reached by no bytes, and what a turn reaches is reached by the bytes before it and its own.
+use Rattle.log_reader.proofs.feed.ReachedLaws.{reached_none, reached_more}
+use Rattle.rerun.proofs.read_all.Goals as goal
+
+pub loop-init : goal.loop-init
+loop-init g c = rw c.begin-s.ensures (reached_none _)
+
+pub loop-preserved : goal.loop-preserved
+loop-preserved g c = reached_more c.loop.invariant c.turn-t.ensures
+
+pub returns-then-not-t : goal.returns-then-not-t
+returns-then-not-t g c = reached_more c.loop.invariant c.turn-t.ensures
