@@ -8,7 +8,7 @@ ghost use Rattle.trials.specs.Row.{figures, row};
 
 // The generator's seed, the calls made, the orders accepted and out, the calls declined by each number, and a digest of all
 // replies and images.
-#[derive(Drop)]
+#[derive(Clone, Copy)]
 pub struct Run {
     pub seed: u32,
     pub calls: u32,
