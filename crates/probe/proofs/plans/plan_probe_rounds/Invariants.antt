@@ -1,0 +1,15 @@
+-- Number and records after the rounds so far.
+use mathlib.Core.Path.{◌≡◌, refl}
+use Prim.Native.Nat.{◌-◌, ◌≤◌}
+use native.Mathlib.Numerals.{add-one}
+use native.Mathlib.Omega.{arith}
+use borrow.Author.Tests.{ne_eqb}
+use Rattle.probe.specs.Rounds.{tasks_after, last_number, number_after}
+use Rattle.probe.proofs.plans.plan_probe_rounds.Given as goal
+
+abbrev pub invariant-loop-i : goal.invariant-loop-i
+invariant-loop-i l =
+    (l.i ≤ l.rounds) × (l.number ≡ last_number l.i l.parsed) × (l.tasks ≡ tasks_after l.i l.parsed)
+
+abbrev pub decreases-loop-i : goal.decreases-loop-i
+decreases-loop-i l = l.rounds - l.i
