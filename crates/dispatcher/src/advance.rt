@@ -6,8 +6,7 @@ use super::advance_parts::advanced;
 use super::replies::put_decline;
 
 // Lets one tick pass. Neither a decline that writes into the image nor a clock that goes past its end meets the promise.
-#[unsafe(no_mangle)]
-pub extern "C" fn dispatcher_advance(image: &mut [u8], reply: &mut [u8]) -> u32
+pub fn dispatcher_advance(image: &mut [u8], reply: &mut [u8]) -> u32
     ensures { Gives (advance_call image.old reply.old) result image.new reply.new }
 {
     let number = soundness::questions::number_to(image, reply);

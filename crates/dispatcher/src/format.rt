@@ -12,8 +12,7 @@ use image::pipeline::wide32;
 
 // Whether an order by format would be accepted, and what the reply would give. Neither a ticket in the reply nor 19 for the last
 // format meets the promise.
-#[unsafe(no_mangle)]
-pub extern "C" fn dispatcher_quote_format(
+pub fn dispatcher_quote_format(
     image: &[u8],
     format: u32,
     due_in: u32,
@@ -34,8 +33,7 @@ pub extern "C" fn dispatcher_quote_format(
 
 // Takes an order by format, if every question passes. Neither the block of another format accepted nor a decline that writes into
 // the image meets the promise.
-#[unsafe(no_mangle)]
-pub extern "C" fn dispatcher_offer_format(
+pub fn dispatcher_offer_format(
     image: &mut [u8],
     format: u32,
     due_in: u32,

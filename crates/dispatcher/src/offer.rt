@@ -8,8 +8,7 @@ use admission::block::block_of;
 
 // Whether an order would be accepted, and what the reply would give. Neither a ticket in the reply nor an order block that
 // is a byte short taken meets the promise.
-#[unsafe(no_mangle)]
-pub extern "C" fn dispatcher_quote(image: &[u8], order: &[u8], reply: &mut [u8]) -> u32
+pub fn dispatcher_quote(image: &[u8], order: &[u8], reply: &mut [u8]) -> u32
     ensures { Gives (quote_call image.now order.now reply.old) result image.now reply.new }
 {
     let number = first_number(image, order, reply);
@@ -22,8 +21,7 @@ pub extern "C" fn dispatcher_quote(image: &[u8], order: &[u8], reply: &mut [u8])
 
 // Takes an order, if every question passes. Neither a decline that writes into the image nor an acceptance that leaves it
 // alone meets the promise.
-#[unsafe(no_mangle)]
-pub extern "C" fn dispatcher_offer(image: &mut [u8], order: &[u8], reply: &mut [u8]) -> u32
+pub fn dispatcher_offer(image: &mut [u8], order: &[u8], reply: &mut [u8]) -> u32
     ensures { Gives (offer_call image.old order.now reply.old) result image.new reply.new }
 {
     let number = first_number(image, order, reply);

@@ -26,8 +26,7 @@ fn open_answer(image: &[u8], stations: u32, reply: &[u8]) -> Answer
 
 // Opens a cabinet of so many stations in the image. Neither a decline that writes into the image nor a reply written
 // beside number 1 meets the promise.
-#[unsafe(no_mangle)]
-pub extern "C" fn dispatcher_open(image: &mut [u8], stations: u32, reply: &mut [u8]) -> u32
+pub fn dispatcher_open(image: &mut [u8], stations: u32, reply: &mut [u8]) -> u32
     ensures { Gives (open_call image.old stations reply.old) result image.new reply.new }
 {
     let number = soundness::questions::number(open_answer(image, stations, reply));

@@ -8,16 +8,14 @@ use image::layout::{IMAGE_SIZE, LIVE_COUNT_AT};
 use model::limits::MAX_LIVE;
 
 // The number that questions 1 to 4 give.
-#[unsafe(no_mangle)]
-pub extern "C" fn probe_number(image: &[u8], reply: &[u8]) -> u32
+pub fn probe_number(image: &[u8], reply: &[u8]) -> u32
     ensures { result ≡ first_no (reply_question reply.now ∷ image_questions image.now) }
 {
     soundness::questions::number_to(image, reply)
 }
 
 // Decodes an image and encodes what it says; 2 and 4 are declines, which change nothing.
-#[unsafe(no_mangle)]
-pub extern "C" fn probe_recode(image: &mut [u8]) -> u32
+pub fn probe_recode(image: &mut [u8]) -> u32
     ensures { Recoded image.old result image.new }
 {
     if image.len() != IMAGE_SIZE {

@@ -2,12 +2,11 @@
 ghost use Rattle.std.specs.Prelude.{◌≡◌, ◌≤◌};
 ghost use Rattle.lists.specs.Stored.{Put};
 ghost use Rattle.plan_model.specs.Output.{plan_output};
-ghost use Rattle.plan_text.specs.Parsed.{parsed as parsedOf};
+ghost use Rattle.plan_text.specs.Parsed.{parsed as parsed_of};
 ghost use Rattle.probe.specs.Rounds.{number_after};
 
 // What the plan program prints for an input.
-#[unsafe(no_mangle)]
-pub extern "C" fn plan_probe_text(input: &[u8], out: &mut [u8; 1024]) -> usize
+pub fn plan_probe_text(input: &[u8], out: &mut [u8; 1024]) -> usize
     ensures put { Put out.old 0 (plan_output input.now) result out.new }
     ensures within { result ≤ 1024 }
 {
@@ -16,9 +15,8 @@ pub extern "C" fn plan_probe_text(input: &[u8], out: &mut [u8; 1024]) -> usize
 
 // Plan over the task set of an input, so many times, each on the records as the one before left them. The number that the last
 // one gives; that of the form where it does not pass, or where there is no round.
-#[unsafe(no_mangle)]
-pub extern "C" fn plan_probe_rounds(input: &[u8], rounds: u32) -> u32
-    ensures { result ≡ number_after rounds (parsedOf input.now) }
+pub fn plan_probe_rounds(input: &[u8], rounds: u32) -> u32
+    ensures { result ≡ number_after rounds (parsed_of input.now) }
 {
     let parsed = plan_text::input::parse(input);
     let form = parsed.form;
