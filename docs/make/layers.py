@@ -19,12 +19,11 @@ from xml.sax.saxutils import escape
 
 ROOT = Path(sys.argv[1] if len(sys.argv) > 1 else ".")
 EVERYWHERE = ("model", "lists")  # nearly every other crate uses them: no arrows
-TOOLCHAIN = ("io", "libc")
 
 # Where each box stands: a name fills the places that it is written in.
 GRID = """
 model       model       model      model       model       model       model
-text        text        lists      lists       lists       lists       lists
+text        text        lists      lists       lists       console     console
 plan_model  log_model   schedule   schedule    legend      legend      legend
 plan_model  log_model   delay      image_laws  image       image       image
 plan_core   log_model   delay      call_laws   tick        soundness   soundness
@@ -43,6 +42,7 @@ CRATES = {
     "model": ("definition", "document 01 as definitions: the image, the calls, one tick, the history of a run, lists of calls, and the worked cases"),
     "lists": ("theorem", "laws of lists and signed numbers"),
     "text": ("code", "words and decimals as bytes"),
+    "console": ("code", "what the programs read and write"),
     "plan_model": ("definition", "plan as definitions, from the base of a task to the bytes printed, and what they mean"),
     "log_model": ("definition", "a log as definitions: the form of its lines, the calls that they record, what is printed for it, and its reading byte by byte"),
     "schedule": ("theorem", "what a tick means: who starts, and that each is served in full"),
@@ -112,9 +112,12 @@ NOTES = {
     "log_lines": "log_model",
     "admission": "call_laws",
     "image_text": "text",
+    "plan": "console",
+    "inspect": "console",
+    "rerun": "console",
     "trials": "image_text",
-    "cases": "trials dispatcher plan_text",
-    "soak": "trials dispatcher",
+    "cases": "trials dispatcher plan_text console",
+    "soak": "trials dispatcher console",
     "uses": "claims",
     "probe": "soundness plan_text",
 }
@@ -197,7 +200,7 @@ def uses():
         if colon:
             if name.strip() in found:
                 fail(f"crates.txt has {name.strip()} twice")
-            found[name.strip()] = [c for c in rest.split() if c not in TOOLCHAIN]
+            found[name.strip()] = rest.split()
     return found
 
 

@@ -9,7 +9,7 @@ use image::layout::IMAGE_SIZE;
 use log_model::Reading;
 use std::io::Read;
 
-// Of a log that is long this much is read at a time.
+// So much of a log is read at a time: with less, a long one would spend its time on the calls that read.
 const CHUNK: usize = 65536;
 
 // What was fed, and whether there may be more.
