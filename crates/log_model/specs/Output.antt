@@ -1,5 +1,5 @@
 -- Document 02, (iv): what the rerun prints for a log, from all its bytes.
-use Rattle.std.specs.Prelude.{Bool, true, false, cond, ◌||◌, List, [], ◌∷◌, ◌++◌, map, ℕ, suc, ◌+◌, length, get_or, drop}
+use Rattle.std.specs.Prelude.{Bool, true, false, cond, ◌||◌, List, [], ◌∷◌, ◌++◌, map, ℕ, suc, length, get_or, drop}
 use Rattle.model.specs.declared.Service.{Service}
 use Rattle.model.specs.Lists.{is_zero, concat, numbered, upward}
 use Rattle.text.specs.Ascii.{ascii}

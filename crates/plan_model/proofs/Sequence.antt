@@ -10,7 +10,7 @@ use borrow.Author.Tests.{le-leb, lt-leb, leb-true, leb-false, eq-eqb, ne_eqb, eq
 use Rattle.lists.proofs.Tests.{either, both_false}
 use Rattle.plan_model.specs.declared.Verdict.{Verdict}
 use Rattle.plan_model.specs.declared.Verdict.TheVariants.{OnTime, Late}
-use Rattle.plan_model.specs.Response.{past, ends, settled, response_from, verdict_where, verdict_of}
+use Rattle.plan_model.specs.Response.{ends, settled, response_from, verdict_where, verdict_of}
 use Rattle.plan_model.specs.Meaning.{sequence, FirstEnd, LeastFixed, FirstPast}
 
 -- A step that does not fall.

@@ -10,7 +10,7 @@ use Rattle.model.specs.Lists.{rounded_up, concat, all}
 use Rattle.text.specs.Ascii.{ascii}
 use Rattle.plan_model.specs.declared.Task.{Task}
 use Rattle.plan_model.specs.declared.Verdict.TheVariants.{OnTime}
-use Rattle.plan_model.specs.Response.{releases, others, next, ends, past, verdict_of}
+use Rattle.plan_model.specs.Response.{releases, others, next, ends, verdict_of}
 use Rattle.plan_model.specs.Plan.{planned, after_plan}
 use Rattle.plan_model.specs.Input.{task_of}
 use Rattle.plan_model.specs.Meaning.{sequence, FirstEnd, FirstPast, Meant, Asked, asked}

@@ -3,13 +3,12 @@ use mathlib.Core.Path.{◌≡◌, refl, sym, ap, ◌∙◌}
 use mathlib.Core.List.{List, [], ◌∷◌, ◌++◌}
 use mathlib.Core.Logic.{⊎_elim, ◌⊎◌, inl, inr}
 use Prim.Native.Nat.{ℕ, zero, suc, ◌+◌, ◌-◌, ◌*◌, ◌≤◌, ◌<◌}
-use native.Mathlib.Nat.{mul-le-mul, mul-le-mul_right}
+use native.Mathlib.Nat.{mul-le-mul_right}
 use native.Mathlib.Numerals.{add-one}
 use native.Mathlib.Omega.{arith}
 use lib.ListN.{length, get_or}
 use lib.Dec.{eqb}
 use borrow.Author.Tests.{eqb-true, eqb-false}
-use Rattle.model.specs.Limits.{max_cost}
 use Rattle.model.specs.Lists.{total, upward}
 use Rattle.lists.proofs.Fills.{length-upward, upward-more}
 use Rattle.lists.proofs.Tests.{either, total_snoc}
@@ -17,15 +16,10 @@ use Rattle.plan_model.specs.Limits.{max_period}
 use Rattle.plan_model.specs.Response.{releases, others}
 use Rattle.plan_model.proofs.Releases.{releases_most, releases_rise}
 use Rattle.plan_model.proofs.Sequence.{Rises}
-use Rattle.plan_core.specs.Response.{share_at, interference_of, step_of, Ranged, max_share}
+use Rattle.plan_core.specs.Response.{share_at, interference_of, step_of, Ranged}
 
 pub few_releases : (R d p : ℕ) → 1 ≤ d → d ≤ p → R < max_period → releases R d p ≤ max_period - 1
 few_releases R d p low high r = releases_most R (max_period - 1) d p (omega arith) high (omega arith) (omega arith)
-
-pub share_most : (R d p c : ℕ) → 1 ≤ d → d ≤ p → R < max_period → c ≤ max_cost → releases R d p * c ≤ max_share
-share_most R d p c low high r k =
-    let product : releases R d p * c ≤ (max_period - 1) * max_cost = mul-le-mul (few_releases R d p low high r) k in
-    omega arith
 
 -- All but one, with one more at the end.
 others_same : (l : List ℕ) (x t : ℕ) → length l ≡ t → others t (l ++ (x ∷ [])) ≡ others t l

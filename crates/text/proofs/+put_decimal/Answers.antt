@@ -1,8 +1,6 @@
 -- A decimal is one digit by `decimal_one`, or more by `decimal_more`, whose tenth is a smaller number.
-use Prim.Native.Nat.{ℕ, ◌<◌}
 use native.Mathlib.Nat.{div-mul-le_self}
 use native.Mathlib.Omega.{arith}
-use borrow.Author.Rules.{rules}
 use Rattle.lists.proofs.Stores.{put_then, put_length}
 use Rattle.text.proofs.Decimals.{decimal_one, decimal_more, length-one, length_more}
 use Rattle.text.proofs.+put_decimal.Goals as goal

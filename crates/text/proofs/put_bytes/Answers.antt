@@ -1,8 +1,5 @@
-use Prim.Native.Nat.{◌≤◌, ◌+◌, ◌-◌}
 use native.Mathlib.Omega.{arith}
-use lib.ListN.{length, take}
 use borrow.Author.Rules.{rules}
-use Rattle.lists.specs.Stored.{Put}
 use Rattle.lists.proofs.Stores.{put_length, put_more, put_end}
 use Rattle.text.proofs.put_bytes.Goals as goal
 

@@ -1,10 +1,7 @@
 -- `text::put_bytes` stores the bytes it is given. The loop has stored the first i of them, and has as many left to store as the measure says.
 use Prim.Native.Nat.{◌≤◌, ◌+◌, ◌-◌}
-use native.Mathlib.Omega.{arith}
 use lib.ListN.{length, take}
-use borrow.Author.Rules.{rules}
 use Rattle.lists.specs.Stored.{Put}
-use Rattle.lists.proofs.Stores.{put_length, put_more, put_end}
 use Rattle.text.proofs.put_bytes.Given as goal
 
 abbrev pub invariant-loop-i : goal.invariant-loop-i

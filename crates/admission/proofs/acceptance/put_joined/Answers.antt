@@ -1,15 +1,14 @@
 use mathlib.Core.Path.{◌≡◌, refl, sym, ap, ◌∙◌}
-use Prim.Native.Nat.{◌≤◌, ◌-◌}
 use native.Mathlib.Omega.{arith}
 use lib.ListN.{length}
 use borrow.Author.Rules.{rules}
 use Rattle.model.specs.declared.Order.{Order}
 use Rattle.model.specs.Lists.{concat}
-use Rattle.model.specs.Layout.{image_size, records_at, record_size, record_part}
+use Rattle.model.specs.Layout.{record_part}
 use Rattle.model.specs.Image.{order_of, order_bytes}
 use Rattle.model.specs.Admission.{joined_by}
 use Rattle.lists.proofs.Stores.{stored_same}
-use Rattle.lists.proofs.Fills.{Rows, rows_none, rows_more}
+use Rattle.lists.proofs.Fills.{rows_none, rows_more}
 use Rattle.admission.proofs.acceptance.AcceptLaws.{joined_rows, still}
 use Rattle.admission.proofs.acceptance.put_joined.Goals as goal
 

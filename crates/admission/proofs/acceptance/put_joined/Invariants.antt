@@ -1,17 +1,11 @@
 -- The records so far are one store of rows, and the next is read as it was.
-use mathlib.Core.Path.{◌≡◌, refl, sym, ap, ◌∙◌}
+use mathlib.Core.Path.{◌≡◌}
 use Prim.Native.Nat.{◌≤◌, ◌-◌}
-use native.Mathlib.Omega.{arith}
 use lib.ListN.{length}
-use borrow.Author.Rules.{rules}
-use Rattle.model.specs.declared.Order.{Order}
-use Rattle.model.specs.Lists.{concat}
 use Rattle.model.specs.Layout.{image_size, records_at, record_size, record_part}
 use Rattle.model.specs.Image.{order_of, order_bytes}
 use Rattle.model.specs.Admission.{joined_by}
-use Rattle.lists.proofs.Stores.{stored_same}
-use Rattle.lists.proofs.Fills.{Rows, rows_none, rows_more}
-use Rattle.admission.proofs.acceptance.AcceptLaws.{joined_rows, still}
+use Rattle.lists.proofs.Fills.{Rows}
 use Rattle.admission.proofs.acceptance.put_joined.Given as goal
 
 abbrev pub invariant-loop-i : goal.invariant-loop-i

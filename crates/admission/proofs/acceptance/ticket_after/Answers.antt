@@ -1,6 +1,5 @@
 -- By the test.
 use borrow.Author.Tests.{ne_eqb}
-use borrow.Author.Rules.{rules}
 use Rattle.model.specs.Limits.{last_ticket}
 use Rattle.admission.proofs.acceptance.ticket_after.Goals as goal
 

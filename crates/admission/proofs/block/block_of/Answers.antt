@@ -1,5 +1,4 @@
 -- Each field is what its reader says.
-use borrow.Author.Rules.{rules}
 use Rattle.model.specs.Admission.{block_of}
 use Rattle.admission.proofs.block.block_of.Goals as goal
 

@@ -1,5 +1,4 @@
 -- The sum at the widened figures.
-use borrow.Author.Rules.{rules}
 use Rattle.model.specs.Admission.{due_of}
 use Rattle.admission.proofs.block.due_tick.Goals as goal
 

@@ -1,5 +1,4 @@
 -- The three tests.
-use borrow.Author.Rules.{rules}
 use Rattle.admission.proofs.block.fits.Goals as goal
 
 pub returns : goal.returns

@@ -1,7 +1,6 @@
 -- By the test.
 use native.Mathlib.Omega.{arith}
 use borrow.Author.Tests.{ne_eqb}
-use borrow.Author.Rules.{rules}
 use Rattle.admission.proofs.block.or_default.Goals as goal
 
 pub returns-then-due_in-eq0 : goal.returns-then-due_in-eq0

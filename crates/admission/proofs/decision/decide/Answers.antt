@@ -7,7 +7,6 @@ use lib.Signed.{lt_z}
 use mir.Syntax.{w32}
 use mir.Val.{to_z, of_z}
 use mir.Facts.{to_z-of_z}
-use borrow.Author.Rules.{rules}
 use Rattle.model.specs.DelayBound as delay
 use Rattle.model.specs.Admission.{smallest}
 use Rattle.admission.specs.declared.decision.Decision.TheVariants.{Accepted, Late, Delaying}

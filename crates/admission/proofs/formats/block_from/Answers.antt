@@ -1,5 +1,4 @@
 -- The rows of the block, by what the sheet says.
-use borrow.Author.Rules.{rules}
 use Rattle.model.specs.Formats.{fixed_ticks, speeds, format_cost}
 use Rattle.call_laws.proofs.formats.Block.{few_moving}
 use Rattle.admission.specs.Formats.{held_block}

@@ -1,6 +1,5 @@
 -- The table's entry at the format's place.
 use Prim.Native.Nat.{◌-◌}
-use borrow.Author.Rules.{rules}
 use Rattle.admission.proofs.formats.FormatLaws.{side_at, side_most}
 use Rattle.admission.proofs.formats.long_side.Goals as goal
 

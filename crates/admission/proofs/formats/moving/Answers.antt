@@ -1,11 +1,9 @@
 use mathlib.Core.Path.{◌≡◌, sym}
-use Prim.Native.Nat.{◌≤◌, ◌-◌}
 use native.Mathlib.Omega.{arith}
 use lib.Seq.{take_all}
-use lib.ListN.{length, take}
+use lib.ListN.{length}
 use lib.Dec.{leb}
 use borrow.Author.Rules.{rules}
-use Rattle.model.specs.Lists.{all}
 use Rattle.lists.proofs.Tests.{first_none, all_first}
 use Rattle.admission.proofs.formats.moving.Goals as goal
 

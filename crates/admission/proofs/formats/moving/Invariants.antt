@@ -1,13 +1,9 @@
 -- The test of the entries so far.
-use mathlib.Core.Path.{◌≡◌, sym}
+use mathlib.Core.Path.{◌≡◌}
 use Prim.Native.Nat.{◌≤◌, ◌-◌}
-use native.Mathlib.Omega.{arith}
-use lib.Seq.{take_all}
-use lib.ListN.{length, take}
+use lib.ListN.{take}
 use lib.Dec.{leb}
-use borrow.Author.Rules.{rules}
 use Rattle.model.specs.Lists.{all}
-use Rattle.lists.proofs.Tests.{first_none, all_first}
 use Rattle.admission.proofs.formats.moving.Given as goal
 
 abbrev pub invariant-loop-k : goal.invariant-loop-k

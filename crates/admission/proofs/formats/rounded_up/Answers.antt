@@ -1,7 +1,6 @@
 -- A quotient rounded up is at most what is divided.
 use mathlib.Core.Path.{refl}
 use native.Mathlib.Omega.{arith}
-use borrow.Author.Rules.{rules}
 use Rattle.model.specs.Lists.{rounded_up}
 use Rattle.lists.proofs.Rounding.{up_most}
 use Rattle.admission.proofs.formats.rounded_up.Goals as goal

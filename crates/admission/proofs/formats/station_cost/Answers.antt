@@ -1,7 +1,6 @@
 -- The sum, by its test.
 use mathlib.Core.Path.{◌≡◌, sym, ◌∙◌}
 use Prim.Native.Nat.{◌+◌}
-use borrow.Author.Rules.{rules}
 use Rattle.model.specs.Lists.{rounded_up}
 use Rattle.admission.proofs.formats.FormatLaws.{held_in, held_over}
 use Rattle.admission.proofs.formats.station_cost.Goals as goal

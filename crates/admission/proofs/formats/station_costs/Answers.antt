@@ -1,9 +1,7 @@
 use mathlib.Core.Path.{◌≡◌, ◌∙◌}
-use mathlib.Core.List.{◌++◌}
-use Prim.Native.Nat.{suc, ◌+◌, ◌≤◌, ◌-◌}
+use Prim.Native.Nat.{suc, ◌+◌}
 use native.Mathlib.Omega.{arith}
-use lib.ListN.{get_or, replicate}
-use Rattle.model.specs.Lists.{at, rounded_up, upward}
+use Rattle.model.specs.Lists.{at, rounded_up}
 use Rattle.lists.proofs.Fills.{pad_start, pad_next}
 use Rattle.admission.specs.Formats.{held_cost}
 use Rattle.admission.proofs.formats.FormatLaws.{filled}

@@ -1,13 +1,10 @@
 -- A row of zeros, of which the first n entries are filled.
-use mathlib.Core.Path.{◌≡◌, ◌∙◌}
+use mathlib.Core.Path.{◌≡◌}
 use mathlib.Core.List.{◌++◌}
-use Prim.Native.Nat.{suc, ◌+◌, ◌≤◌, ◌-◌}
-use native.Mathlib.Omega.{arith}
+use Prim.Native.Nat.{◌+◌, ◌≤◌, ◌-◌}
 use lib.ListN.{get_or, replicate}
-use Rattle.model.specs.Lists.{at, rounded_up, upward}
-use Rattle.lists.proofs.Fills.{pad_start, pad_next}
+use Rattle.model.specs.Lists.{rounded_up, upward}
 use Rattle.admission.specs.Formats.{held_cost}
-use Rattle.admission.proofs.formats.FormatLaws.{filled}
 use Rattle.admission.proofs.formats.station_costs.Given as goal
 
 abbrev pub invariant-loop-k : goal.invariant-loop-k

@@ -1,14 +1,10 @@
 -- A row filled from the front.
-use mathlib.Core.Path.{◌≡◌, ◌∙◌}
+use mathlib.Core.Path.{◌≡◌}
 use mathlib.Core.Bool.{cond}
 use Prim.Native.Nat.{◌≤◌, ◌-◌}
-use native.Mathlib.Omega.{arith}
 use lib.Dec.{ltb}
-use lib.ListN.{length, length-set, take}
-use borrow.Author.Rules.{rules}
+use lib.ListN.{length, take}
 use Rattle.model.specs.Lists.{upward}
-use Rattle.lists.proofs.Fills.{fill_start, fill_next, fill_end}
-use Rattle.admission.proofs.formats.FormatLaws.{same_up_to}
 use Rattle.admission.proofs.formats.station_ranks.Given as goal
 
 abbrev pub invariant-loop-k : goal.invariant-loop-k

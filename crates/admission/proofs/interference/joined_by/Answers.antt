@@ -1,5 +1,4 @@
 -- The record with two fields set.
-use borrow.Author.Rules.{rules}
 use Rattle.model.specs.Admission.{joined_by}
 use Rattle.admission.proofs.interference.joined_by.Goals as goal
 

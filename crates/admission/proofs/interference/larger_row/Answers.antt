@@ -1,9 +1,7 @@
 use mathlib.Core.Path.{◌≡◌, ◌∙◌}
-use Prim.Native.Nat.{◌≤◌, ◌-◌, max}
 use native.Mathlib.Omega.{arith}
-use lib.ListN.{length, length-set, get_or, take}
+use lib.ListN.{length, length-set}
 use borrow.Author.Rules.{rules}
-use Rattle.model.specs.Lists.{upward}
 use Rattle.lists.proofs.Fills.{fill_start, fill_next, fill_end}
 use Rattle.lists.proofs.Maxima.{larger_places}
 use Rattle.admission.proofs.interference.larger_row.Goals as goal

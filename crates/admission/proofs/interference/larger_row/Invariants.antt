@@ -1,12 +1,8 @@
 -- A row filled from the front.
-use mathlib.Core.Path.{◌≡◌, ◌∙◌}
+use mathlib.Core.Path.{◌≡◌}
 use Prim.Native.Nat.{◌≤◌, ◌-◌, max}
-use native.Mathlib.Omega.{arith}
-use lib.ListN.{length, length-set, get_or, take}
-use borrow.Author.Rules.{rules}
+use lib.ListN.{length, get_or, take}
 use Rattle.model.specs.Lists.{upward}
-use Rattle.lists.proofs.Fills.{fill_start, fill_next, fill_end}
-use Rattle.lists.proofs.Maxima.{larger_places}
 use Rattle.admission.proofs.interference.larger_row.Given as goal
 
 abbrev pub invariant-loop-k : goal.invariant-loop-k

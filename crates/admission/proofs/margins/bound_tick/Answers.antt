@@ -1,6 +1,5 @@
 -- The parts do not pass 32 bits, since the whole does not.
 use native.Mathlib.Omega.{arith}
-use borrow.Author.Rules.{rules}
 use Rattle.model.specs.DelayBound.{bound_tick, delay_bound}
 use Rattle.admission.proofs.margins.bound_tick.Goals as goal
 

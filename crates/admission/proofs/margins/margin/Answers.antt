@@ -2,7 +2,6 @@
 use mathlib.Core.Path.{ap, ◌∙◌}
 use native.Mathlib.Omega.{arith}
 use lib.IntN.{pos}
-use borrow.Author.Rules.{rules}
 use Rattle.model.specs.DelayBound as delay
 use Rattle.admission.proofs.margins.SignLaws.{made_fits, cast_fits, cast_read}
 use Rattle.admission.proofs.margins.margin.Goals as goal

@@ -3,7 +3,6 @@ use mathlib.Core.Path.{◌≡◌, sym, ap, subst, ◌∙◌}
 use native.Mathlib.Omega.{arith}
 use mir.Syntax.{w32}
 use mir.Facts.{to_z-of_z}
-use borrow.Author.Rules.{rules}
 use Rattle.model.specs.Admission as defined
 use Rattle.image.specs.Pipeline.{listed}
 use Rattle.soundness.specs.declared.row_limits.Limits.{Limits}

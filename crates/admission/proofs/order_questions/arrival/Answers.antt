@@ -1,6 +1,5 @@
 -- Field by field.
 use native.Mathlib.Omega.{arith}
-use borrow.Author.Rules.{rules}
 use Rattle.admission.specs.Arrival.{arrival_with}
 use Rattle.admission.proofs.order_questions.arrival.Goals as goal
 

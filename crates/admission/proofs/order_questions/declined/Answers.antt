@@ -1,5 +1,4 @@
 -- No record stands beside a decline.
-use borrow.Author.Rules.{rules}
 use Rattle.admission.proofs.order_questions.declined.Goals as goal
 
 pub returns : goal.returns

@@ -1,6 +1,6 @@
 -- Question by question: what is left of each test is the test of the next. What is read of the image are its state's figures.
 use mathlib.Core.Path.{◌≡◌, sym, ap, subst, ◌∙◌}
-use mathlib.Core.Bool.{Bool, true, false, not}
+use mathlib.Core.Bool.{Bool, true, false}
 use Prim.Native.Nat.{ℕ, ◌≤◌}
 use native.Mathlib.Omega.{arith}
 use lib.ListN.{length}
@@ -11,7 +11,6 @@ use Rattle.model.specs.Limits.{max_live, max_due_in, last_tick}
 use Rattle.model.specs.State.{State}
 use Rattle.model.specs.Image.{decode}
 use Rattle.model.specs.Admission.{due_of}
-use Rattle.lists.proofs.Signs.{flip}
 use Rattle.image.specs.Pipeline.{listed}
 use Rattle.image_laws.specs.InRange.{byte_limit, Below}
 use Rattle.image_laws.proofs.Read.{decode_clock, decode-next, decode-live}

@@ -1,6 +1,5 @@
 -- The first "no" of four declines; where there is none, what is lent is usable and the state decides.
 use mathlib.Core.Path.{sym, ◌∙◌}
-use borrow.Author.Rules.{rules}
 use Rattle.image_laws.proofs.Questions.{replied}
 use Rattle.dispatcher.proofs.advance_parts.AdvanceLaws.{usable, declined}
 use Rattle.dispatcher.proofs.advance.dispatcher_advance.Goals as goal

@@ -1,7 +1,6 @@
 -- The clock of the image decides: the reply and the image are those of the state after the tick, or 13 is given.
 use mathlib.Core.Path.{◌≡◌, sym, ap, ◌∙◌}
 use native.Mathlib.Omega.{arith}
-use borrow.Author.Rules.{rules}
 use Prim.Native.Nat.{◌<◌}
 use Rattle.model.specs.Limits.{last_tick}
 use Rattle.model.specs.Image.{decode, encode}

@@ -1,6 +1,5 @@
 -- Three stores over the image of the state.
 use native.Mathlib.Omega.{arith}
-use borrow.Author.Rules.{rules}
 use Rattle.image.proofs.Carried.{few}
 use Rattle.tick.proofs.leaving.LeaveLaws.{count_is}
 use Rattle.dispatcher.proofs.advance_parts.After.{held, holds, written}

@@ -2,7 +2,6 @@
 use mathlib.Core.Path.{◌≡◌, sym, ◌∙◌}
 use mathlib.Core.List.{◌∷◌}
 use native.Mathlib.Omega.{arith}
-use borrow.Author.Rules.{rules}
 use Rattle.model.specs.Questions.{first_no}
 use Rattle.model.specs.Calls.{reply_question, image_questions}
 use Rattle.image_laws.proofs.Read.{decode_n}

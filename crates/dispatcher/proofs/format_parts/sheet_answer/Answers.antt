@@ -1,7 +1,5 @@
 -- The three questions in turn.
 use mathlib.Core.Path.{sym, ◌∙◌}
-use borrow.Author.Rules.{rules}
-use borrow.Author.Tests.{not-true, not-false}
 use Rattle.model.specs.Formats.{speeds}
 use Rattle.dispatcher.proofs.format_parts.SheetLaws.{length_no, format_no, speed_no, sheet_yes}
 use Rattle.dispatcher.proofs.format_parts.sheet_answer.Goals as goal

@@ -1,7 +1,6 @@
 -- As a quote, by the offer's call.
 use mathlib.Core.Path.{◌≡◌, sym, ◌∙◌}
 use mathlib.Core.List.{[], ◌∷◌, ◌++◌}
-use borrow.Author.Rules.{rules}
 use Rattle.model.specs.Questions.{first_no}
 use Rattle.model.specs.Admission.{block_length_question}
 use Rattle.model.specs.Calls.{reply_question, image_questions}

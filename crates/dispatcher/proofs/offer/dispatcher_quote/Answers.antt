@@ -1,7 +1,6 @@
 -- The number first: one of the first five declines, and with none of them the state and the order decide.
 use mathlib.Core.Path.{◌≡◌, sym, ◌∙◌}
 use mathlib.Core.List.{[], ◌∷◌, ◌++◌}
-use borrow.Author.Rules.{rules}
 use Rattle.model.specs.Questions.{first_no}
 use Rattle.model.specs.Admission.{block_length_question}
 use Rattle.model.specs.Calls.{reply_question, image_questions}

@@ -1,6 +1,5 @@
 -- The first "no" of four decides; where there is none, the order's length does.
 use mathlib.Core.Path.{sym, ◌∙◌}
-use borrow.Author.Rules.{rules}
 use Rattle.dispatcher.proofs.offer_parts.OfferLaws.{four_no, four_yes, block_no, block_yes}
 use Rattle.dispatcher.proofs.offer_parts.first_number.Goals as goal
 

@@ -1,7 +1,6 @@
 -- What the answer to the offer says, put into the reply.
 use mir.Syntax.{w32}
 use mir.Facts.{to_z-of_z}
-use borrow.Author.Rules.{rules}
 use Rattle.dispatcher.proofs.offer_parts.TakenLaws.{quote_gives}
 use Rattle.dispatcher.proofs.offer_parts.quoted.Goals as goal
 

@@ -2,8 +2,6 @@
 use mathlib.Core.Path.{◌≡◌, sym, ◌∙◌}
 use Prim.Native.Nat.{◌%◌}
 use native.Mathlib.Omega.{arith}
-use borrow.Author.Rules.{rules}
-use Rattle.model.specs.Image.{encode}
 use Rattle.model.specs.Calls.{open_number}
 use Rattle.dispatcher.proofs.OpenLaws.{heard, replied, whole, few, opened, declined}
 use Rattle.dispatcher.proofs.open.dispatcher_open.Goals as goal

@@ -1,6 +1,5 @@
 -- 1 leaves the reply as it was; any other number is written, with zeros.
 use mathlib.Core.Path.{◌∙◌}
-use borrow.Author.Rules.{rules}
 use borrow.Author.Tests.{eq-eqb, ne_eqb}
 use Rattle.model.specs.Questions.{reply_bytes}
 use Rattle.dispatcher.specs.Declined.{declined_reply}

@@ -1,6 +1,5 @@
 -- Four stores, one after the other, that fill the reply.
 use native.Mathlib.Omega.{arith}
-use borrow.Author.Rules.{rules}
 use Rattle.lists.proofs.Stores.{stored_then, stored_all}
 use Rattle.dispatcher.proofs.replies.put_reply.Goals as goal
 

@@ -1,5 +1,4 @@
 -- The records, and the state with them.
-use borrow.Author.Rules.{rules}
 use Rattle.image.proofs.decode.decode.Goals as goal
 
 pub state_with-requires : goal.state_with-requires

@@ -1,5 +1,4 @@
 -- Each field is what its reader says.
-use borrow.Author.Rules.{rules}
 use Rattle.model.specs.Image.{order_of}
 use Rattle.image.proofs.decode.order_of.Goals as goal
 

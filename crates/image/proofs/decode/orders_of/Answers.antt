@@ -1,11 +1,7 @@
 use mathlib.Core.Path.{◌≡◌, ap, ◌∙◌}
-use mathlib.Core.List.{◌++◌}
-use Prim.Native.Nat.{◌≤◌, ◌-◌}
 use native.Mathlib.Omega.{arith}
-use lib.ListN.{length, length-set, replicate, length-replicate}
-use borrow.Author.Rules.{rules}
+use lib.ListN.{length, length-set, length-replicate}
 use Rattle.model.specs.Limits.{max_live}
-use Rattle.model.specs.Image.{orders_of}
 use Rattle.lists.proofs.Fills.{pad_start, pad_next}
 use Rattle.image.specs.Pipeline.{unused}
 use Rattle.image.proofs.decode.orders_of.Goals as goal

@@ -1,13 +1,10 @@
 -- An array of unused records, filled from the front.
-use mathlib.Core.Path.{◌≡◌, ap, ◌∙◌}
+use mathlib.Core.Path.{◌≡◌}
 use mathlib.Core.List.{◌++◌}
 use Prim.Native.Nat.{◌≤◌, ◌-◌}
-use native.Mathlib.Omega.{arith}
-use lib.ListN.{length, length-set, replicate, length-replicate}
-use borrow.Author.Rules.{rules}
+use lib.ListN.{length, replicate}
 use Rattle.model.specs.Limits.{max_live}
 use Rattle.model.specs.Image.{orders_of}
-use Rattle.lists.proofs.Fills.{pad_start, pad_next}
 use Rattle.image.specs.Pipeline.{unused}
 use Rattle.image.proofs.decode.orders_of.Given as goal
 

@@ -1,11 +1,7 @@
 use mathlib.Core.Path.{◌≡◌}
-use Prim.Native.Nat.{◌≤◌, ◌-◌}
 use native.Mathlib.Omega.{arith}
-use lib.ListN.{length-set, length, take}
+use lib.ListN.{length-set}
 use borrow.Author.Rules.{rules}
-use Rattle.model.specs.Lists.{upward}
-use Rattle.model.specs.Layout.{service_part}
-use Rattle.model.specs.Image.{service_of}
 use Rattle.lists.proofs.Fills.{fill_start, fill_next, fill_end}
 use Rattle.image.proofs.decode.services_of.Goals as goal
 

@@ -1,13 +1,10 @@
 -- An array filled from the front: the entries so far are the first of the list.
 use mathlib.Core.Path.{◌≡◌}
 use Prim.Native.Nat.{◌≤◌, ◌-◌}
-use native.Mathlib.Omega.{arith}
-use lib.ListN.{length-set, length, take}
-use borrow.Author.Rules.{rules}
+use lib.ListN.{length, take}
 use Rattle.model.specs.Lists.{upward}
 use Rattle.model.specs.Layout.{service_part}
 use Rattle.model.specs.Image.{service_of}
-use Rattle.lists.proofs.Fills.{fill_start, fill_next, fill_end}
 use Rattle.image.proofs.decode.services_of.Given as goal
 
 abbrev pub invariant-loop-i : goal.invariant-loop-i

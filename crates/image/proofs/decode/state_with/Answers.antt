@@ -1,5 +1,4 @@
 -- The parts of the image, each read by its own function.
-use borrow.Author.Rules.{rules}
 use Rattle.image.proofs.pipeline.Rows.{parts_padded}
 use Rattle.image.proofs.decode.state_with.Goals as goal
 

@@ -1,6 +1,5 @@
 -- Four stores, one after the other.
 use native.Mathlib.Omega.{arith}
-use borrow.Author.Rules.{rules}
 use Rattle.lists.proofs.Stores.{stored_then}
 use Rattle.image.proofs.encode.put_header.Goals as goal
 

@@ -1,6 +1,5 @@
 -- Five stores, one after the other.
 use native.Mathlib.Omega.{arith}
-use borrow.Author.Rules.{rules}
 use Rattle.lists.proofs.Stores.{stored_then}
 use Rattle.image.proofs.encode.Rows.{byte_as_four}
 use Rattle.image.proofs.encode.put_order_head.Goals as goal

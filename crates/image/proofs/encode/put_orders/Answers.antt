@@ -1,13 +1,11 @@
 use mathlib.Core.Path.{◌≡◌, refl, sym, ap, ◌∙◌}
-use Prim.Native.Nat.{◌≤◌, ◌-◌}
 use native.Mathlib.Omega.{arith}
-use lib.ListN.{length, get_or}
+use lib.ListN.{length}
 use borrow.Author.Rules.{rules}
 use Rattle.model.specs.Lists.{concat}
-use Rattle.model.specs.Layout.{image_size, records_at, record_size}
 use Rattle.model.specs.Image.{order_bytes}
 use Rattle.lists.proofs.Stores.{stored_same}
-use Rattle.lists.proofs.Fills.{Rows, rows_none, rows_more, map-upward, past}
+use Rattle.lists.proofs.Fills.{rows_none, rows_more, map-upward, past}
 use Rattle.image.proofs.encode.put_orders.Goals as goal
 
 pub loop-i-init : goal.loop-i-init

@@ -1,14 +1,10 @@
 -- The entries so far are one store of rows.
-use mathlib.Core.Path.{◌≡◌, refl, sym, ap, ◌∙◌}
+use mathlib.Core.Path.{◌≡◌}
 use Prim.Native.Nat.{◌≤◌, ◌-◌}
-use native.Mathlib.Omega.{arith}
 use lib.ListN.{length, get_or}
-use borrow.Author.Rules.{rules}
-use Rattle.model.specs.Lists.{concat}
 use Rattle.model.specs.Layout.{image_size, records_at, record_size}
 use Rattle.model.specs.Image.{order_bytes}
-use Rattle.lists.proofs.Stores.{stored_same}
-use Rattle.lists.proofs.Fills.{Rows, rows_none, rows_more, map-upward, past}
+use Rattle.lists.proofs.Fills.{Rows, past}
 use Rattle.image.proofs.encode.put_orders.Given as goal
 
 abbrev pub invariant-loop-i : goal.invariant-loop-i

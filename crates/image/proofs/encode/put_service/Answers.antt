@@ -1,6 +1,5 @@
 -- Three stores, one after the other.
 use native.Mathlib.Omega.{arith}
-use borrow.Author.Rules.{rules}
 use Rattle.lists.proofs.Stores.{stored_then}
 use Rattle.model.specs.Image.{service_bytes}
 use Rattle.image.proofs.encode.put_service.Goals as goal

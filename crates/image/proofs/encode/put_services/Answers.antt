@@ -1,15 +1,13 @@
 use mathlib.Core.Path.{◌≡◌, refl, sym, ap, ◌∙◌}
 use mathlib.Core.List.{map}
-use Prim.Native.Nat.{◌≤◌, ◌-◌}
 use native.Mathlib.Omega.{arith}
-use lib.ListN.{length, get_or}
+use lib.ListN.{length}
 use lib.Seq.{take_all}
 use borrow.Author.Rules.{rules}
 use Rattle.model.specs.Lists.{concat}
-use Rattle.model.specs.Layout.{image_size, services_at, service_size}
 use Rattle.model.specs.Image.{service_bytes}
 use Rattle.lists.proofs.Stores.{stored_same}
-use Rattle.lists.proofs.Fills.{Rows, rows_none, rows_more, map-upward}
+use Rattle.lists.proofs.Fills.{rows_none, rows_more, map-upward}
 use Rattle.image.proofs.encode.Rows.{length_service}
 use Rattle.model.specs.State.{idle}
 use Rattle.image.proofs.encode.put_services.Goals as goal

@@ -1,17 +1,10 @@
 -- The entries so far are one store of rows.
-use mathlib.Core.Path.{◌≡◌, refl, sym, ap, ◌∙◌}
-use mathlib.Core.List.{map}
+use mathlib.Core.Path.{◌≡◌}
 use Prim.Native.Nat.{◌≤◌, ◌-◌}
-use native.Mathlib.Omega.{arith}
 use lib.ListN.{length, get_or}
-use lib.Seq.{take_all}
-use borrow.Author.Rules.{rules}
-use Rattle.model.specs.Lists.{concat}
 use Rattle.model.specs.Layout.{image_size, services_at, service_size}
 use Rattle.model.specs.Image.{service_bytes}
-use Rattle.lists.proofs.Stores.{stored_same}
-use Rattle.lists.proofs.Fills.{Rows, rows_none, rows_more, map-upward}
-use Rattle.image.proofs.encode.Rows.{length_service}
+use Rattle.lists.proofs.Fills.{Rows}
 use Rattle.model.specs.State.{idle}
 use Rattle.image.proofs.encode.put_services.Given as goal
 

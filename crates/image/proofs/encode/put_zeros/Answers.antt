@@ -1,10 +1,8 @@
 use mathlib.Core.Path.{◌≡◌, refl}
-use Prim.Native.Nat.{◌≤◌, ◌+◌, ◌-◌}
+use Prim.Native.Nat.{◌+◌, ◌-◌}
 use native.Mathlib.Nat.{sub_self}
 use native.Mathlib.Omega.{arith}
-use lib.ListN.{length-set, length, replicate}
-use borrow.Author.Rules.{rules}
-use Rattle.lists.specs.Stored.{Stored}
+use lib.ListN.{length-set, length}
 use Rattle.lists.proofs.Stores.{stored_none, fill_more}
 use Rattle.image.proofs.encode.put_zeros.Goals as goal
 

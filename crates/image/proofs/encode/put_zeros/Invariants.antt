@@ -1,12 +1,8 @@
 -- The zeros so far are one store.
-use mathlib.Core.Path.{◌≡◌, refl}
-use Prim.Native.Nat.{◌≤◌, ◌+◌, ◌-◌}
-use native.Mathlib.Nat.{sub_self}
-use native.Mathlib.Omega.{arith}
-use lib.ListN.{length-set, length, replicate}
-use borrow.Author.Rules.{rules}
+use mathlib.Core.Path.{◌≡◌}
+use Prim.Native.Nat.{◌≤◌, ◌-◌}
+use lib.ListN.{length, replicate}
 use Rattle.lists.specs.Stored.{Stored}
-use Rattle.lists.proofs.Stores.{stored_none, fill_more}
 use Rattle.image.proofs.encode.put_zeros.Given as goal
 
 abbrev pub invariant-loop-i : goal.invariant-loop-i

@@ -1,5 +1,4 @@
 -- The one record, 32 times.
-use borrow.Author.Rules.{rules}
 use Rattle.image.proofs.pipeline.unused_orders.Goals as goal
 
 pub returns : goal.returns

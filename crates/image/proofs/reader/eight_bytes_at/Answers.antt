@@ -1,5 +1,4 @@
 -- Each entry is what its reader says.
-use borrow.Author.Rules.{rules}
 use Rattle.model.specs.Bytes.{eight_bytes}
 use Rattle.image.proofs.reader.eight_bytes_at.Goals as goal
 

@@ -1,5 +1,4 @@
 -- Each entry is what its reader says.
-use borrow.Author.Rules.{rules}
 use Rattle.model.specs.Bytes.{eight_halves}
 use Rattle.image.proofs.reader.eight_halves_at.Goals as goal
 

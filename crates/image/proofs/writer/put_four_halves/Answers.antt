@@ -1,6 +1,5 @@
 -- Four stores of two bytes.
 use native.Mathlib.Omega.{arith}
-use borrow.Author.Rules.{rules}
 use Rattle.lists.proofs.Stores.{stored_then}
 use Rattle.model.specs.Lists.{concat}
 use Rattle.image.proofs.writer.put_four_halves.Goals as goal

@@ -1,7 +1,6 @@
 -- Single stores, one after the other, are one store of them all.
 use native.Mathlib.Omega.{arith}
 use lib.ListN.{length-set}
-use borrow.Author.Rules.{rules}
 use Rattle.lists.proofs.Stores.{stored_two}
 use Rattle.image.proofs.writer.put_two.Goals as goal
 

@@ -2,7 +2,6 @@
 use mathlib.Core.Path.{ap, ◌∙◌}
 use native.Mathlib.Omega.{arith}
 use lib.ListN.{length}
-use borrow.Author.Rules.{rules}
 use Rattle.image_text.specs.Report.{clause_line}
 use Rattle.image_text.specs.Explanation.{flaw_name}
 use Rattle.image_text.proofs.explanation.Rooms.{named_part, clause_room}

@@ -1,9 +1,5 @@
 use mathlib.Core.Path.{◌≡◌, ◌∙◌}
-use Prim.Native.Nat.{◌≤◌, ◌-◌}
 use native.Mathlib.Omega.{arith}
-use borrow.Author.Rules.{rules}
-use Rattle.model.specs.Image.{orders_of}
-use Rattle.image_text.specs.Records.{tests_of_all}
 use Rattle.image_text.proofs.first_flaw.RecordLaws.{tested_none, tested_more}
 use Rattle.image_text.proofs.first_flaw.all_tested.Goals as goal
 

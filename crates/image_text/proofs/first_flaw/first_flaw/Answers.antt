@@ -1,7 +1,6 @@
 -- The counts first, then the other clauses in turn.
 use mathlib.Core.Path.{ap, ◌∙◌}
 use native.Mathlib.Omega.{arith}
-use borrow.Author.Rules.{rules}
 use Rattle.image_text.specs.FirstFlaw.{flaw_of}
 use Rattle.image_text.proofs.first_flaw.FirstLaws.{count_flaw, live_flaw, later_flaw}
 use Rattle.image_text.proofs.first_flaw.first_flaw.Goals as goal

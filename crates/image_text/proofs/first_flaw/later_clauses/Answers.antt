@@ -1,5 +1,4 @@
 -- Each clause is what its function says.
-use borrow.Author.Rules.{rules}
 use Rattle.image_text.proofs.first_flaw.LaterLaws.{later_is}
 use Rattle.image_text.proofs.first_flaw.later_clauses.Goals as goal
 

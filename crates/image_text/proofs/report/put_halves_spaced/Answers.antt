@@ -1,10 +1,7 @@
 use mathlib.Core.Path.{ap, ◌∙◌}
-use Prim.Native.Nat.{◌≤◌, ◌-◌}
 use native.Mathlib.Omega.{arith}
 use lib.ListN.{length, take, length-append}
 use borrow.Author.Rules.{rules}
-use Rattle.model.specs.Lists.{concat, upward}
-use Rattle.lists.specs.Stored.{Put}
 use Rattle.lists.proofs.Stores.{put_then, put_length}
 use Rattle.text.proofs.Rows.{printed_none, printed_more, printed_all, printed_room}
 use Rattle.image_text.specs.Report.{spaced}

@@ -1,15 +1,8 @@
 -- `put_halves_spaced` prints a word and numbers of two bytes. The loop has printed the first i of them, as rows, after the word.
-use mathlib.Core.Path.{ap, ◌∙◌}
 use Prim.Native.Nat.{◌≤◌, ◌-◌}
-use native.Mathlib.Omega.{arith}
-use lib.ListN.{length, take, length-append}
-use borrow.Author.Rules.{rules}
 use Rattle.model.specs.Lists.{concat, upward}
 use Rattle.lists.specs.Stored.{Put}
-use Rattle.lists.proofs.Stores.{put_then, put_length}
-use Rattle.text.proofs.Rows.{printed_none, printed_more, printed_all, printed_room}
-use Rattle.image_text.specs.Report.{spaced}
-use Rattle.image_text.proofs.report.Lengths.{number_row, spaced_rows}
+use Rattle.image_text.proofs.report.Lengths.{number_row}
 use Rattle.image_text.proofs.report.put_halves_spaced.Given as goal
 
 abbrev pub invariant-loop-i : goal.invariant-loop-i

@@ -1,12 +1,8 @@
 -- `put_orders` prints a line for each live order. The loop has printed those of the first `printed` orders, as rows.
 use Prim.Native.Nat.{◌≤◌, ◌-◌}
-use native.Mathlib.Omega.{arith}
-use borrow.Author.Rules.{rules}
 use Rattle.model.specs.Lists.{concat, upward}
 use Rattle.lists.specs.Stored.{Put}
-use Rattle.lists.proofs.Stores.{put_length}
-use Rattle.text.proofs.Rows.{printed_none, printed_more, printed_all, printed_room}
-use Rattle.image_text.proofs.report.Lengths.{order_row, order_rows}
+use Rattle.image_text.proofs.report.Lengths.{order_row}
 use Rattle.image_text.proofs.report.put_orders.Given as goal
 
 abbrev pub invariant-loop-printed : goal.invariant-loop-printed

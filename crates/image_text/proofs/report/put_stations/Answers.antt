@@ -1,8 +1,5 @@
-use Prim.Native.Nat.{◌≤◌, ◌-◌}
 use native.Mathlib.Omega.{arith}
 use borrow.Author.Rules.{rules}
-use Rattle.model.specs.Lists.{concat, upward}
-use Rattle.lists.specs.Stored.{Put}
 use Rattle.lists.proofs.Stores.{put_length}
 use Rattle.text.proofs.Rows.{printed_none, printed_more, printed_all, printed_room}
 use Rattle.image_text.proofs.report.Lengths.{station_row, station_rows}

@@ -1,6 +1,5 @@
 -- `block_of` writes the block of the order.
 use mathlib.Core.Path.{◌∙◌}
-use borrow.Author.Rules.{rules}
 use Rattle.log_lines.proofs.calls.block_of.Goals as goal
 
 pub returns : goal.returns

@@ -1,11 +1,9 @@
 use mathlib.Core.Path.{◌≡◌, refl, ◌∙◌}
-use mathlib.Core.List.{◌++◌}
-use Prim.Native.Nat.{◌+◌, ◌-◌, ◌≤◌}
+use Prim.Native.Nat.{◌+◌}
 use native.Mathlib.Omega.{arith}
-use lib.ListN.{length, replicate}
+use lib.ListN.{length}
 use borrow.Author.Rules.{rules}
 use Rattle.model.specs.Limits.{max_stations}
-use Rattle.model.specs.Lists.{upward}
 use Rattle.lists.proofs.Fills.{pad_start, pad_next}
 use Rattle.log_lines.specs.Fields.{max_fields}
 use Rattle.log_lines.proofs.calls.OrderLaws.{from_place, row_to_eight}

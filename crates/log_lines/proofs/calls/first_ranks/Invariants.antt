@@ -1,15 +1,11 @@
 -- `first_ranks` fills the front of an array of zeros with the values of a row.
-use mathlib.Core.Path.{◌≡◌, refl, ◌∙◌}
+use mathlib.Core.Path.{◌≡◌}
 use mathlib.Core.List.{◌++◌}
 use Prim.Native.Nat.{◌-◌, ◌≤◌}
-use native.Mathlib.Omega.{arith}
-use lib.ListN.{length, replicate}
-use borrow.Author.Rules.{rules}
+use lib.ListN.{replicate}
 use Rattle.model.specs.Limits.{max_stations}
 use Rattle.model.specs.Lists.{upward}
-use Rattle.lists.proofs.Fills.{pad_start, pad_next}
-use Rattle.log_lines.specs.Fields.{max_fields}
-use Rattle.log_lines.proofs.calls.OrderLaws.{from_place, row_to_eight}
+use Rattle.log_lines.proofs.calls.OrderLaws.{from_place}
 use Rattle.log_lines.proofs.calls.first_ranks.Given as goal
 
 abbrev pub invariant-loop-i : goal.invariant-loop-i

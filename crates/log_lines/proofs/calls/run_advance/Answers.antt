@@ -1,6 +1,5 @@
 -- `run_advance` makes the call and compares; a tick passes where it is done.
 use mathlib.Core.Path.{◌∙◌}
-use borrow.Author.Rules.{rules}
 use Rattle.model.specs.Calls.{perform}
 use Rattle.log_model.specs.Lines.{advanced, call_of}
 use Rattle.log_lines.proofs.calls.CallLaws.{declined_passes, done_passes, ran_line_lem}

@@ -1,6 +1,5 @@
 -- `run_offer` makes the call and compares; no tick passes.
 use mathlib.Core.Path.{refl}
-use borrow.Author.Rules.{rules}
 use Rattle.model.specs.Calls.{perform}
 use Rattle.log_model.specs.Lines.{offered_by, call_of}
 use Rattle.log_model.specs.Reading.{after_line}

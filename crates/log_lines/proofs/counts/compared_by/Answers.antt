@@ -1,5 +1,4 @@
 -- `compared_by` by its test.
-use borrow.Author.Rules.{rules}
 use Rattle.log_model.specs.Reading.{compared_by}
 use Rattle.log_lines.proofs.counts.compared_by.Goals as goal
 

@@ -1,11 +1,10 @@
 use mathlib.Core.Path.{◌≡◌, ◌∙◌}
-use Prim.Native.Nat.{◌≤◌, ◌-◌}
+use Prim.Native.Nat.{◌≤◌}
 use native.Mathlib.Numerals.{add-one}
 use native.Mathlib.Omega.{arith}
-use lib.ListN.{length, take}
+use lib.ListN.{length}
 use lib.Seq.{take_all}
 use borrow.Author.Rules.{rules}
-use Rattle.log_model.specs.Reading.{counted}
 use Rattle.log_lines.proofs.counts.CountLaws.{counted_none, counted_next}
 use Rattle.log_lines.proofs.counts.counted.Goals as goal
 use Rattle.log_lines.proofs.counts.counted.Goals.{then-here-k, else-here-k}

@@ -1,13 +1,8 @@
 -- `counted` goes through the stations: the loop has counted for the first k.
-use mathlib.Core.Path.{◌≡◌, ◌∙◌}
+use mathlib.Core.Path.{◌≡◌}
 use Prim.Native.Nat.{◌≤◌, ◌-◌}
-use native.Mathlib.Numerals.{add-one}
-use native.Mathlib.Omega.{arith}
-use lib.ListN.{length, take}
-use lib.Seq.{take_all}
-use borrow.Author.Rules.{rules}
+use lib.ListN.{take}
 use Rattle.log_model.specs.Reading.{counted}
-use Rattle.log_lines.proofs.counts.CountLaws.{counted_none, counted_next}
 use Rattle.log_lines.proofs.counts.counted.Given as goal
 
 abbrev pub invariant-loop-k : goal.invariant-loop-k

@@ -1,5 +1,4 @@
 -- `next_line` by its test.
-use borrow.Author.Rules.{rules}
 use borrow.Author.Tests.{lt-ltb, le-ltb}
 use Rattle.log_model.specs.Reading.{next_line}
 use Rattle.log_lines.proofs.counts.next_line.Goals as goal

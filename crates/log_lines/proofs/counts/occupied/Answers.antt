@@ -1,11 +1,8 @@
-use mathlib.Core.Path.{◌≡◌, ◌∙◌}
-use Prim.Native.Nat.{◌≤◌, ◌-◌}
+use mathlib.Core.Path.{◌∙◌}
 use native.Mathlib.Omega.{arith}
 use borrow.Author.Rules.{rules}
 use Rattle.model.specs.Limits.{max_stations}
-use Rattle.model.specs.Image.{orders_of}
 use Rattle.image_laws.proofs.Tests.{within_says}
-use Rattle.log_model.specs.Reading.{occupied}
 use Rattle.log_lines.proofs.counts.CountLaws.{occupied_none, record_at, record_away, all_records}
 use Rattle.log_lines.proofs.counts.occupied.Goals as goal
 use Rattle.log_lines.proofs.counts.occupied.Goals.{then-station, else-station}

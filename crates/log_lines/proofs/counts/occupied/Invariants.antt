@@ -1,13 +1,8 @@
 -- `occupied` goes through the records that an image has: the loop has found the stations of the first i orders.
-use mathlib.Core.Path.{◌≡◌, ◌∙◌}
+use mathlib.Core.Path.{◌≡◌}
 use Prim.Native.Nat.{◌≤◌, ◌-◌}
-use native.Mathlib.Omega.{arith}
-use borrow.Author.Rules.{rules}
-use Rattle.model.specs.Limits.{max_stations}
 use Rattle.model.specs.Image.{orders_of}
-use Rattle.image_laws.proofs.Tests.{within_says}
 use Rattle.log_model.specs.Reading.{occupied}
-use Rattle.log_lines.proofs.counts.CountLaws.{occupied_none, record_at, record_away, all_records}
 use Rattle.log_lines.proofs.counts.occupied.Given as goal
 
 abbrev pub invariant-loop-i : goal.invariant-loop-i

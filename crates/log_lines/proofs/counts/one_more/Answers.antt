@@ -1,5 +1,4 @@
 -- `one_more` by its test.
-use borrow.Author.Rules.{rules}
 use borrow.Author.Tests.{lt-ltb, le-ltb}
 use Rattle.log_model.specs.Reading.{one_more}
 use Rattle.log_lines.proofs.counts.one_more.Goals as goal

@@ -1,5 +1,4 @@
 -- `opened_with` sets the next line's number.
-use borrow.Author.Rules.{rules}
 use Rattle.log_model.specs.Reading.{opened_with}
 use Rattle.log_lines.proofs.counts.opened_with.Goals as goal
 

@@ -1,5 +1,4 @@
 -- `passed_by` sets the next line's number.
-use borrow.Author.Rules.{rules}
 use Rattle.log_model.specs.Reading.{passed_by}
 use Rattle.log_lines.proofs.counts.passed_by.Goals as goal
 

@@ -1,6 +1,5 @@
 -- `tick_passed` counts a tick, and one for each station where an order is.
 use Rattle.log_model.specs.Reading.{tick_passed}
-use borrow.Author.Rules.{rules}
 use Rattle.log_lines.proofs.counts.tick_passed.Goals as goal
 
 pub returns : goal.returns

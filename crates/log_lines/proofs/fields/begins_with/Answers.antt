@@ -1,7 +1,6 @@
 -- A line with two bytes passes the first test.
 use native.Mathlib.Omega.{arith}
 use lib.ListN.{length}
-use borrow.Author.Rules.{rules}
 use borrow.Author.Tests.{le-leb, lt-leb}
 use Rattle.log_lines.proofs.fields.begins_with.Goals as goal
 

@@ -1,6 +1,5 @@
 -- The place of a field says which it is.
 use mathlib.Core.Path.{sym}
-use borrow.Author.Rules.{rules}
 use Rattle.log_lines.proofs.fields.FormLaws.{order_field_first, order_field_rank, order_field_cost, order_field_last}
 use Rattle.log_lines.proofs.fields.most_of.Goals as goal
 

@@ -1,10 +1,9 @@
 use mathlib.Core.Path.{◌∙◌}
-use Prim.Native.Nat.{◌-◌}
 use native.Mathlib.Omega.{arith}
 use borrow.Author.Rules.{rules}
 use Rattle.text.proofs.parts.PartLaws.{ended}
 use Rattle.log_lines.proofs.fields.ValueLaws.{was_number, was_malformed}
-use Rattle.log_lines.proofs.fields.ReadingLaws.{Reading, reading_none, reading_more, other_word, too_few, too_many, all_read}
+use Rattle.log_lines.proofs.fields.ReadingLaws.{reading_none, reading_more, other_word, too_few, too_many, all_read}
 use Rattle.log_lines.proofs.fields.read_fields.Goals as goal
 
 pub loop-k-init : goal.loop-k-init

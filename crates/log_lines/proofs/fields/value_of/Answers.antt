@@ -1,8 +1,6 @@
-use Prim.Native.Nat.{◌-◌, ◌≤◌}
 use native.Mathlib.Omega.{arith}
 use borrow.Author.Rules.{rules}
-use lib.ListN.{length}
-use Rattle.text.proofs.parts.DigitLaws.{digit_range, Digits, digits_none, digits_more}
+use Rattle.text.proofs.parts.DigitLaws.{digit_range, digits_none, digits_more}
 use Rattle.log_lines.proofs.fields.ValueLaws.{no_digits, leading_zero_lem, other_byte_lem, too_large, all_digits}
 use Rattle.log_lines.proofs.fields.value_of.Goals as goal
 

@@ -1,6 +1,5 @@
 -- `call_line` by the letter of the line.
 use mathlib.Core.Path.{sym, ◌∙◌}
-use borrow.Author.Rules.{rules}
 use Rattle.log_lines.proofs.lines.LineLaws.{no_call}
 use Rattle.log_lines.proofs.lines.EndLaws.{call_refused}
 use Rattle.log_lines.proofs.lines.call_line.Goals as goal

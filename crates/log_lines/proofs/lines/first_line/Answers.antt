@@ -2,7 +2,6 @@
 use mathlib.Core.Path.{◌≡◌, sym, ◌∙◌}
 use mathlib.Core.Bool.{true, false}
 use native.Mathlib.Omega.{arith}
-use borrow.Author.Rules.{rules}
 use borrow.Author.Tests.{not-true, not-false}
 use Rattle.log_lines.specs.Orders.{letter_n, begins}
 use Rattle.log_lines.proofs.lines.LineLaws.{begun_long, not_begun, stations_malformed, stations_read, stations_within}

@@ -1,7 +1,6 @@
 -- `line_ended` by its two tests: whether anything is left to find, and whether the line is the first.
 use mathlib.Core.Path.{◌≡◌, sym, ◌∙◌}
 use mathlib.Core.Bool.{false}
-use borrow.Author.Rules.{rules}
 use Rattle.log_model.specs.Reading.{settled}
 use Rattle.log_lines.proofs.lines.EndLaws.{nothing_left, first_ended, later_ended, few_stations}
 use Rattle.log_lines.proofs.lines.line_ended.Goals as goal

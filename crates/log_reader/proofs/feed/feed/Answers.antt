@@ -1,11 +1,10 @@
 use mathlib.Core.Path.{◌≡◌, sym, ◌∙◌}
-use Prim.Native.Nat.{◌≤◌, ◌-◌}
 use native.Mathlib.Omega.{arith}
-use lib.ListN.{length, get_or, take, length-set}
+use lib.ListN.{length, get_or, length-set}
 use lib.Seq.{take_all, length-take-le}
 use borrow.Author.Rules.{rules}
 use Rattle.log_model.specs.Limits.{max_line}
-use Rattle.log_model.specs.Reading.{fed_byte, fed_all}
+use Rattle.log_model.specs.Reading.{fed_byte}
 use Rattle.log_reader.proofs.feed.FeedLaws.{fed, fed_none, fed_more, line_fed, byte_held, byte_passed}
 use Rattle.log_reader.proofs.feed.feed.Goals as goal
 

@@ -1,14 +1,10 @@
 -- `feed` goes through the bytes of a chunk: the loop has fed the first i of them.
-use mathlib.Core.Path.{◌≡◌, sym, ◌∙◌}
-use mathlib.Core.Logic.{inl, inr}
+use mathlib.Core.Path.{◌≡◌}
 use Prim.Native.Nat.{◌≤◌, ◌-◌}
-use native.Mathlib.Omega.{arith}
-use lib.ListN.{length, get_or, take, length-set}
-use lib.Seq.{take_all, length-take-le}
-use borrow.Author.Rules.{rules}
+use lib.ListN.{length, take}
 use Rattle.log_model.specs.Limits.{max_line}
-use Rattle.log_model.specs.Reading.{fed_byte, fed_all}
-use Rattle.log_reader.proofs.feed.FeedLaws.{fed, fed_none, fed_more, line_fed, byte_held, byte_passed}
+use Rattle.log_model.specs.Reading.{fed_all}
+use Rattle.log_reader.proofs.feed.FeedLaws.{fed}
 use Rattle.log_reader.proofs.feed.feed.Given as goal
 
 abbrev pub invariant-loop-i : goal.invariant-loop-i

@@ -7,7 +7,6 @@ use Rattle.lists.proofs.Stores.{put_then}
 use Rattle.text.specs.Decimal.{decimal}
 use Rattle.log_model.specs.Output.{station_line}
 use Rattle.log_reader.proofs.print.Lengths.{length_station}
-use borrow.Author.Rules.{rules}
 use Rattle.log_reader.proofs.print.put_station.Goals as goal
 
 pub put_start-a-requires : goal.put_start-a-requires

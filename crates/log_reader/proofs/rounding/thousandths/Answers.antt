@@ -2,7 +2,6 @@
 use Prim.Native.Nat.{◌*◌}
 use native.Mathlib.Nat.{add-zero, div-le_self, mod-lt}
 use native.Mathlib.Omega.{arith}
-use borrow.Author.Rules.{rules}
 use borrow.Author.Tests.{eq-eqb, ne_eqb, le-leb, lt-leb}
 use Rattle.log_model.specs.Rounding.{nearest, thousandths}
 use Rattle.log_reader.proofs.rounding.thousandths.Goals as goal

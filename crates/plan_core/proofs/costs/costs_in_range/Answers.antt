@@ -16,8 +16,3 @@ loop-k-preserved c =
     let row = c.args.costs in
     let long : length row ≡ 8 = search rules in
     (omega arith, rw c.loop-k.invariant.1 (sym (all-next (within 1 max_cost) 0 row c.loop-k.k (omega arith))))
-
-pub returns : goal.returns
-returns c =
-    let e : c.loop-k.k ≡ c.args.stations = omega arith in
-    rw e at c.loop-k.invariant.1

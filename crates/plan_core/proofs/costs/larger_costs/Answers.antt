@@ -17,8 +17,3 @@ loop-k-preserved c =
     let long : length args.costs ≡ 8 = search rules in
     let wide : length args.row ≡ 8 = search rules in
     (omega arith, rw (loop.invariant.1, c.larger.ensures) (larger_next args.costs args.row loop.k (omega arith) (omega arith)))
-
-pub returns : goal.returns
-returns c =
-    let e : c.loop-k.k ≡ c.args.stations = omega arith in
-    rw e at c.loop-k.invariant.1

@@ -2,7 +2,6 @@ use mathlib.Core.Path.{◌≡◌, refl}
 use Prim.Native.Nat.{◌+◌}
 use native.Mathlib.Omega.{arith}
 use lib.ListN.{length}
-use lib.Seq.{take_all}
 use borrow.Author.Rules.{rules}
 use Rattle.model.specs.Lists.{total}
 use Rattle.lists.proofs.Tests.{total_next, total_take}
@@ -25,10 +24,3 @@ loop-k-preserved c =
     let k = c.loop-k.k in
     let long : length row ≡ 8 = search rules in
     (omega arith, omega (arith, c.loop-k.invariant.1, total_next row k (omega arith)))
-
-pub returns : goal.returns
-returns c =
-    let row = c.args.maxima in
-    let long : length row ≡ 8 = search rules in
-    let e : c.loop-k.k ≡ 8 = omega arith in
-    rw (e, take_all 8 row (omega arith)) at c.loop-k.invariant.1

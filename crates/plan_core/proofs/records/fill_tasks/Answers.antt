@@ -20,8 +20,3 @@ loop-i-preserved c =
     let long : length a.tasks ≡ 32 = search rules in
     let less : loop.i < length a.tasks = omega arith in
     (omega arith, rw (c.fill_task-task.ensures, loop.invariant.1, filled_read a.figures a.tasks loop.i less) (filled_next a.figures a.tasks loop.i less))
-
-pub returns : goal.returns
-returns c =
-    let e : c.loop-i.i ≡ c.args.count = omega arith in
-    rw e at c.loop-i.invariant.1

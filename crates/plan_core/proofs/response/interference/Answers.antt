@@ -1,5 +1,3 @@
-use mathlib.Core.Path.{◌≡◌}
-use Prim.Native.Nat.{◌<◌}
 use native.Mathlib.Omega.{arith}
 use Rattle.plan_core.proofs.response.StepLaws.{none_add, own_adds, other_adds}
 use Rattle.plan_core.proofs.response.interference.Goals as goal
@@ -10,13 +8,6 @@ loop-i-init c =
     let a = c.args in
     (omega arith, none_add a.periods.now a.deadlines.now a.costs.now a.t a.r, omega arith)
 
-pub share-sum-requires : goal.share-sum-requires
-share-sum-requires c =
-    let i = c.loop-i.i in
-    let l : i < c.args.count = omega arith in
-    let ranged = c.requires.2 in
-    (c.requires.1, ranged.deadline_low i l, ranged.deadline_high i l, ranged.period_high i l, ranged.cost_high i l)
-
 pub loop-i-preserved : goal.loop-i-preserved
 loop-i-preserved c =
     let a = c.args in
@@ -25,8 +16,3 @@ loop-i-preserved c =
       | then-i-t w ↦ omega (arith, w.sum-is, w.share-sum.ensures.0, w.share-sum.ensures.1, other_adds a.periods.now a.deadlines.now a.costs.now a.t i a.r w.if-i-t.true)
       | else-i-t w ↦ omega (arith, w.sum-is, own_adds a.periods.now a.deadlines.now a.costs.now a.t i a.r w.if-i-t.false)
     ]
-
-pub returns : goal.returns
-returns c =
-    let e : c.loop-i.i ≡ c.args.count = omega arith in
-    (rw e at c.loop-i.invariant.1, omega arith)

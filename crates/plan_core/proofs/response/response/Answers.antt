@@ -12,27 +12,21 @@ loop-r-init c =
     let step = step_of a.periods.now a.deadlines.now a.costs.now a.count a.t a.base in
     stands_first step a.deadline a.base (step_from a.periods.now a.deadlines.now a.costs.now a.t a.count a.base a.base)
 
-pub interference-requires : goal.interference-requires
-interference-requires c =
-    let pre = c.requires in
-    (pre.0, omega arith, pre.2)
-
-pub overflow_add-next : goal.overflow_add-next
-overflow_add-next c = omega (arith, c.interference.ensures.1)
-
 pub loop-r-smaller : goal.loop-r-smaller
 unfolding step_of
 loop-r-smaller c =
-    let stepped : let a = c.args in step_of a.periods.now a.deadlines.now a.costs.now a.count a.t a.base c.loop-r.r ≡ a.base + c.interference.result = omega (arith, c.interference.ensures.0) in
+    let a = c.args in
+    -- what the code takes for the next R is the step's
+    let stepped : step_of a.periods.now a.deadlines.now a.costs.now a.count a.t a.base c.loop-r.r ≡ a.base + c.interference.result = omega (arith, c.interference.ensures.0) in
     omega (arith, stepped, c.loop-r.invariant.up, c.if-next-r.false)
 
 pub loop-r-preserved : goal.loop-r-preserved
 unfolding step_of
 loop-r-preserved c =
-    let stepped : let a = c.args in step_of a.periods.now a.deadlines.now a.costs.now a.count a.t a.base c.loop-r.r ≡ a.base + c.interference.result = omega (arith, c.interference.ensures.0) in
     let a = c.args in
     let r = c.loop-r.r in
     let step = step_of a.periods.now a.deadlines.now a.costs.now a.count a.t a.base in
+    let stepped : step r ≡ a.base + c.interference.result = omega (arith, c.interference.ensures.0) in
     let rises = step_rises a.periods.now a.deadlines.now a.costs.now a.t a.count a.base c.requires.2 in
     rw (← stepped) (stands_next step a.deadline rises r _ (omega arith) (λ e. omega (arith, stepped, e, c.if-next-r.false)) c.loop-r.invariant)
 

@@ -24,8 +24,3 @@ loop-i-preserved c =
       loop.invariant.2,
       loop.invariant.3,
     )
-
-pub returns : goal.returns
-returns c =
-    let e : c.loop-i.i ≡ c.args.count = omega arith in
-    rw e at c.loop-i.invariant.1

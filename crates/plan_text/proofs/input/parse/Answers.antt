@@ -2,9 +2,7 @@
 use mathlib.Core.Path.{◌∙◌}
 use native.Mathlib.Omega.{arith}
 use borrow.Author.Rules.{rules}
-use Rattle.model.specs.Limits.{max_stations}
 use Rattle.text.proofs.parts.PartLaws.{ended}
-use Rattle.text.proofs.parts.DigitLaws.{bounds}
 use Rattle.plan_text.proofs.words.WordLaws.{was_number, was_malformed}
 use Rattle.plan_text.proofs.input.InputLaws.{too_long, no_first_line, no_number, out_of_range_lem, stations_read}
 use Rattle.plan_text.proofs.input.parse.Goals as goal
@@ -32,16 +30,6 @@ returns-then-n c =
     let line = ended _ _ _ (search rules) c.part_end-end.ensures in
     let n = was_number _ c.value_of.ensures c.in-Number.is in
     c.refused-then-n.ensures ∙ out_of_range_lem _ (omega arith) line (omega arith) n.1 c.if-n.true
-
-pub overflow_add-end : goal.overflow_add-end
-overflow_add-end c =
-    let line = ended _ _ _ (search rules) c.part_end-end.ensures in
-    search rules
-
-pub read_tasks-requires : goal.read_tasks-requires
-read_tasks-requires c =
-    let line = ended _ _ _ (search rules) c.part_end-end.ensures in
-    (omega arith, (bounds 1 max_stations _ c.if-n.false).1)
 
 pub returns : goal.returns
 returns c =

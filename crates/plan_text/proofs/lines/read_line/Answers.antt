@@ -32,11 +32,6 @@ returns-in_default c =
     c.malformed-in_default.ensures
     ∙ other_word c.loop-k.invariant (ended _ _ _ (search rules) c.part_end-end.ensures) (was_malformed _ c.value_of.ensures c.in_default.is)
 
-pub overflow_add-at : goal.overflow_add-at
-overflow_add-at c =
-    let word = ended _ _ _ (search rules) c.part_end-end.ensures in
-    search rules
-
 pub loop-k-preserved : goal.loop-k-preserved
 loop-k-preserved c =
     let n = was_number _ c.value_of.ensures c.in-Number.is in

@@ -1,6 +1,5 @@
 use native.Mathlib.Omega.{arith}
 use borrow.Author.Rules.{rules}
-use Rattle.lists.proofs.Stores.{put_length}
 use Rattle.text.proofs.Rows.{printed_none, printed_more, printed_all, printed_room}
 use Rattle.plan_model.specs.Records.{beyond}
 use Rattle.plan_text.proofs.output.Lengths.{task_row, task_rows}
@@ -16,9 +15,6 @@ put_line-end-requires c =
 
 pub loop-i-preserved : goal.loop-i-preserved
 loop-i-preserved c = (omega arith, printed_more _ c.loop-i.invariant.1 c.put_line-end.ensures)
-
-pub shape_of-out : goal.shape_of-out
-shape_of-out c = put_length c.loop-i.invariant.1
 
 pub returns : goal.returns
 returns c =

@@ -36,18 +36,6 @@ returns-then-not-line c =
     let room = ended_and_room inv line c.if-end-input.false in
     c.refused-then-not-line.ensures ∙ other_line inv line room.0 (was_no_task _ _ c.read_line-line.ensures (not-true _ c.if-not-line.true))
 
-pub bounds-tasks-count : goal.bounds-tasks-count
-bounds-tasks-count c =
-    let line = ended _ _ _ (search rules) c.part_end-end.ensures in
-    let room = ended_and_room c.loop-at.invariant line c.if-end-input.false in
-    search rules
-
-pub overflow_add-at : goal.overflow_add-at
-overflow_add-at c =
-    let line = ended _ _ _ (search rules) c.part_end-end.ensures in
-    let room = ended_and_room c.loop-at.invariant line c.if-end-input.false in
-    search rules
-
 pub loop-at-smaller : goal.loop-at-smaller
 loop-at-smaller c =
     let line = ended _ _ _ (search rules) c.part_end-end.ensures in

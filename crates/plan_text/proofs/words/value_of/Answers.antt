@@ -1,18 +1,11 @@
 use native.Mathlib.Omega.{arith}
 use borrow.Author.Rules.{rules}
-use lib.ListN.{length}
-use Rattle.plan_model.specs.Limits.{max_digits}
-use Rattle.text.proofs.parts.DigitLaws.{bounds, digits_none, digits_more}
+use Rattle.text.proofs.parts.DigitLaws.{digits_none, digits_more}
 use Rattle.plan_text.proofs.words.WordLaws.{next_digit, wrong_length, leading_zero_lem, other_byte_lem, all_digits}
 use Rattle.plan_text.proofs.words.value_of.Goals as goal
 
 pub returns-then-n : goal.returns-then-n
 returns-then-n c = wrong_length _ c.if-n.true
-
-pub bounds-word-0 : goal.bounds-word-0
-bounds-word-0 c =
-    let long = bounds 1 max_digits (length c.args.word.now) c.if-n.false in
-    search rules
 
 pub returns-then-n-word : goal.returns-then-n-word
 returns-then-n-word c = leading_zero_lem _ c.if-n-word.true
@@ -25,14 +18,6 @@ returns-then-b c = other_byte_lem _ c.loop-i.invariant (search rules) c.if-b.tru
 
 pub overflow_mul-value : goal.overflow_mul-value
 overflow_mul-value c =
-    let digit = next_digit c.loop-i.invariant (search rules) c.if-n.false c.if-b.false in
-    omega arith
-
-pub overflow_sub-value : goal.overflow_sub-value
-overflow_sub-value c = (bounds 48 57 _ c.if-b.false).0
-
-pub overflow_cast-value : goal.overflow_cast-value
-overflow_cast-value c =
     let digit = next_digit c.loop-i.invariant (search rules) c.if-n.false c.if-b.false in
     omega arith
 

@@ -1,7 +1,6 @@
 -- The number first; then decode and encode say the rest.
 use mathlib.Core.Path.{refl, ap, ◌∙◌}
 use native.Mathlib.Omega.{arith}
-use borrow.Author.Rules.{rules}
 use Rattle.image.specs.declared.pipeline.Pipeline.{Pipeline}
 use Rattle.probe.proofs.images.RecodeLaws.{recode_length, recode_live, recode_done}
 use Rattle.image.specs.Pipeline.{listed}

@@ -1,10 +1,7 @@
 -- Number and records after the rounds so far.
-use mathlib.Core.Path.{◌≡◌, refl}
+use mathlib.Core.Path.{◌≡◌}
 use Prim.Native.Nat.{◌-◌, ◌≤◌}
-use native.Mathlib.Numerals.{add-one}
-use native.Mathlib.Omega.{arith}
-use borrow.Author.Tests.{ne_eqb}
-use Rattle.probe.specs.Rounds.{tasks_after, last_number, number_after}
+use Rattle.probe.specs.Rounds.{tasks_after, last_number}
 use Rattle.probe.proofs.plans.plan_probe_rounds.Given as goal
 
 abbrev pub invariant-loop-i : goal.invariant-loop-i

@@ -1,7 +1,6 @@
 -- Question 1, then the others.
 use mathlib.Core.Path.{◌∙◌}
 use native.Mathlib.Omega.{arith}
-use borrow.Author.Rules.{rules}
 use Rattle.soundness.proofs.questions.QuestionLaws.{reply_no, reply_yes}
 use Rattle.soundness.proofs.questions.answer_to.Goals as goal
 

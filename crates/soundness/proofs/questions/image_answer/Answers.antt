@@ -1,8 +1,6 @@
 -- The questions in turn.
 use mathlib.Core.Path.{◌∙◌, sym}
 use native.Mathlib.Omega.{arith}
-use borrow.Author.Tests.{not-true, not-false}
-use borrow.Author.Rules.{rules}
 use Rattle.soundness.proofs.questions.QuestionLaws.{length_no, mark_no, sound_no, all_yes}
 use Rattle.soundness.proofs.questions.image_answer.Goals as goal
 

@@ -1,7 +1,6 @@
 -- The mark byte by byte, and the version.
 use mathlib.Core.Path.{sym}
 use native.Mathlib.Omega.{arith}
-use borrow.Author.Rules.{rules}
 use Rattle.soundness.proofs.questions.QuestionLaws.{marked_is}
 use Rattle.soundness.proofs.questions.marked.Goals as goal
 

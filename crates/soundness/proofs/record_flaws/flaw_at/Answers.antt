@@ -1,5 +1,4 @@
 -- The four differences, each as its call says.
-use borrow.Author.Rules.{rules}
 use Rattle.soundness.proofs.record_flaws.flaw_at.Goals as goal
 
 pub returns : goal.returns

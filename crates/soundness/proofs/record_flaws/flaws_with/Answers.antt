@@ -1,13 +1,12 @@
 use mathlib.Core.Path.{◌≡◌}
-use Prim.Native.Nat.{ℕ, ◌≤◌, ◌-◌}
+use Prim.Native.Nat.{ℕ}
 use native.Mathlib.Omega.{arith}
-use lib.ListN.{length, length-set, get_or, take}
+use lib.ListN.{length, length-set, get_or}
 use mir.Syntax.{w16}
 use mir.Val.{Fits}
 use borrow.Author.Rules.{rules}
-use Rattle.model.specs.Lists.{upward}
 use Rattle.lists.proofs.Fills.{fill_start, fill_next}
-use Rattle.soundness.proofs.record_flaws.FlawLaws.{gathered, gathered_all}
+use Rattle.soundness.proofs.record_flaws.FlawLaws.{gathered_all}
 use Rattle.soundness.proofs.record_flaws.flaws_with.Goals as goal
 
 pub loop-k-init : goal.loop-k-init

@@ -1,14 +1,9 @@
 -- A row filled from the front with the flaws of each place.
 use mathlib.Core.Path.{◌≡◌}
-use Prim.Native.Nat.{ℕ, ◌≤◌, ◌-◌}
-use native.Mathlib.Omega.{arith}
-use lib.ListN.{length, length-set, get_or, take}
-use mir.Syntax.{w16}
-use mir.Val.{Fits}
-use borrow.Author.Rules.{rules}
+use Prim.Native.Nat.{◌≤◌, ◌-◌}
+use lib.ListN.{length, take}
 use Rattle.model.specs.Lists.{upward}
-use Rattle.lists.proofs.Fills.{fill_start, fill_next}
-use Rattle.soundness.proofs.record_flaws.FlawLaws.{gathered, gathered_all}
+use Rattle.soundness.proofs.record_flaws.FlawLaws.{gathered}
 use Rattle.soundness.proofs.record_flaws.flaws_with.Given as goal
 
 abbrev pub invariant-loop-k : goal.invariant-loop-k

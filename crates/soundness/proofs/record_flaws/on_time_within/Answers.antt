@@ -1,5 +1,4 @@
 -- What is left to the due tick, twice.
-use borrow.Author.Rules.{rules}
 use Rattle.soundness.proofs.record_flaws.FlawLaws.{on_time_is}
 use Rattle.soundness.proofs.record_flaws.on_time_within.Goals as goal
 

@@ -1,10 +1,7 @@
 use mathlib.Core.Path.{◌≡◌, refl, ap, ◌∙◌}
-use Prim.Native.Nat.{◌≤◌, ◌-◌}
 use native.Mathlib.Omega.{arith}
-use lib.ListN.{length, length-set, get_or, take}
-use lib.Bits.{bit_or}
+use lib.ListN.{length, length-set}
 use borrow.Author.Rules.{rules}
-use Rattle.model.specs.Lists.{upward}
 use Rattle.model.specs.Soundness.{zero_beyond}
 use Rattle.lists.proofs.Fills.{fill_start, fill_next, fill_end}
 use Rattle.soundness.proofs.record_flaws.FlawLaws.{overlaid_beyond}

@@ -1,14 +1,9 @@
 -- A row filled from the front with the ranks of both at each place.
-use mathlib.Core.Path.{◌≡◌, refl, ap, ◌∙◌}
+use mathlib.Core.Path.{◌≡◌}
 use Prim.Native.Nat.{◌≤◌, ◌-◌}
-use native.Mathlib.Omega.{arith}
-use lib.ListN.{length, length-set, get_or, take}
+use lib.ListN.{length, get_or, take}
 use lib.Bits.{bit_or}
-use borrow.Author.Rules.{rules}
 use Rattle.model.specs.Lists.{upward}
-use Rattle.model.specs.Soundness.{zero_beyond}
-use Rattle.lists.proofs.Fills.{fill_start, fill_next, fill_end}
-use Rattle.soundness.proofs.record_flaws.FlawLaws.{overlaid_beyond}
 use Rattle.soundness.proofs.record_flaws.ranks_with.Given as goal
 
 abbrev pub invariant-loop-k : goal.invariant-loop-k

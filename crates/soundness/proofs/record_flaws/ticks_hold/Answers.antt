@@ -1,5 +1,4 @@
 -- Clause by clause.
-use borrow.Author.Rules.{rules}
 use Rattle.soundness.specs.Holds.{ticks_hold}
 use Rattle.soundness.proofs.record_flaws.ticks_hold.Goals as goal
 

@@ -1,5 +1,4 @@
 -- The tests at the widened ticks.
-use borrow.Author.Rules.{rules}
 use Rattle.model.specs.Soundness.{due_in_range}
 use Rattle.soundness.proofs.records.due_in_range.Goals as goal
 

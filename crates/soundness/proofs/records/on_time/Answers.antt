@@ -1,5 +1,4 @@
 -- The sum at the widened figures.
-use borrow.Author.Rules.{rules}
 use Rattle.model.specs.DelayBound.{on_time, bound_tick, delay_bound}
 use Rattle.soundness.proofs.records.on_time.Goals as goal
 

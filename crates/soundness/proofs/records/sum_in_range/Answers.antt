@@ -1,5 +1,4 @@
 -- The largest cost, held against the sum.
-use borrow.Author.Rules.{rules}
 use Rattle.model.specs.Soundness.{sum_in_range}
 use Rattle.soundness.proofs.records.sum_in_range.Goals as goal
 

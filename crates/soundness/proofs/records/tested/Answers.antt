@@ -1,5 +1,4 @@
 -- Clause by clause.
-use borrow.Author.Rules.{rules}
 use Rattle.soundness.specs.Records.{tests_of}
 use Rattle.soundness.specs.Rows.{maxima_hold}
 use Rattle.model.specs.Soundness.{maxima_in_range}

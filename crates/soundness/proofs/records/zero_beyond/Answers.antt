@@ -1,5 +1,4 @@
 -- The three rows.
-use borrow.Author.Rules.{rules}
 use Rattle.model.specs.Soundness.{record_zero_beyond}
 use Rattle.soundness.proofs.records.zero_beyond.Goals as goal
 

@@ -1,7 +1,6 @@
 -- By the test.
 use native.Mathlib.Omega.{arith}
 use borrow.Author.Tests.{lt-ltb, le-ltb}
-use borrow.Author.Rules.{rules}
 use Rattle.soundness.proofs.row_figures.if_before.Goals as goal
 
 pub returns-then-k-n : goal.returns-then-k-n

@@ -1,12 +1,8 @@
 -- The test of the entries so far.
-use mathlib.Core.Path.{◌≡◌, refl, sym, ◌∙◌}
+use mathlib.Core.Path.{◌≡◌}
 use Prim.Native.Nat.{◌≤◌, ◌-◌}
-use native.Mathlib.Omega.{arith}
-use lib.Seq.{take_all}
-use lib.ListN.{length, take}
-use borrow.Author.Rules.{rules}
+use lib.ListN.{take}
 use Rattle.model.specs.Lists.{largest}
-use Rattle.lists.proofs.Tests.{largest_more}
 use Rattle.soundness.proofs.row_figures.largest.Given as goal
 
 abbrev pub invariant-loop-k : goal.invariant-loop-k

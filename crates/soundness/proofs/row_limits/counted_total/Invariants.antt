@@ -1,17 +1,9 @@
 -- The entries so far with the bits that count, added up.
-use mathlib.Core.Path.{◌≡◌, refl, sym, ap, ◌∙◌}
-use Prim.Native.Nat.{ℕ, ◌≤◌, ◌-◌, ◌*◌}
-use native.Mathlib.Omega.{arith}
-use lib.ListN.{length, get_or}
+use mathlib.Core.Path.{◌≡◌}
+use Prim.Native.Nat.{◌≤◌, ◌-◌, ◌*◌}
+use lib.ListN.{get_or}
 use lib.Bits.{bit_and}
-use mir.Syntax.{w16}
-use mir.Val.{Fits}
-use borrow.Author.Rules.{rules}
 use Rattle.model.specs.Lists.{total, upward}
-use Rattle.lists.proofs.Tests.{total_upward}
-use Rattle.soundness.specs.RowLimits.{first_places}
-use Rattle.soundness.specs.declared.row_limits.Limits.{Limits}
-use Rattle.soundness.proofs.row_limits.LimitLaws.{counted_is}
 use Rattle.soundness.proofs.row_limits.counted_total.Given as goal
 
 abbrev pub invariant-loop-k : goal.invariant-loop-k

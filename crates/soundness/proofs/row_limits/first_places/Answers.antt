@@ -1,11 +1,7 @@
 use mathlib.Core.Path.{◌≡◌}
-use mathlib.Core.Bool.{cond}
-use Prim.Native.Nat.{◌≤◌, ◌-◌}
 use native.Mathlib.Omega.{arith}
-use lib.ListN.{length, length-set, take}
-use lib.Dec.{ltb}
+use lib.ListN.{length-set}
 use borrow.Author.Rules.{rules}
-use Rattle.model.specs.Lists.{upward}
 use Rattle.lists.proofs.Fills.{fill_start, fill_next, fill_end}
 use Rattle.soundness.specs.RowLimits.{first_places}
 use Rattle.soundness.proofs.row_limits.LimitLaws.{table_place}

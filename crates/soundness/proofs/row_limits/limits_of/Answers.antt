@@ -1,5 +1,4 @@
 -- The three rows.
-use borrow.Author.Rules.{rules}
 use Rattle.soundness.proofs.row_limits.limits_of.Goals as goal
 
 pub returns : goal.returns

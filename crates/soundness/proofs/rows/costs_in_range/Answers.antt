@@ -1,10 +1,9 @@
 use mathlib.Core.Path.{◌≡◌, sym}
-use Prim.Native.Nat.{◌≤◌, ◌-◌}
 use native.Mathlib.Omega.{arith}
 use lib.Seq.{take_all}
-use lib.ListN.{length, take}
+use lib.ListN.{length}
 use borrow.Author.Rules.{rules}
-use Rattle.model.specs.Lists.{all, within}
+use Rattle.model.specs.Lists.{within}
 use Rattle.model.specs.Soundness.{costs_in_range}
 use Rattle.lists.proofs.Tests.{first_none, all_first}
 use Rattle.model.specs.Limits.{max_cost}

@@ -1,13 +1,8 @@
 -- The test of the entries so far.
-use mathlib.Core.Path.{◌≡◌, sym}
+use mathlib.Core.Path.{◌≡◌}
 use Prim.Native.Nat.{◌≤◌, ◌-◌}
-use native.Mathlib.Omega.{arith}
-use lib.Seq.{take_all}
-use lib.ListN.{length, take}
-use borrow.Author.Rules.{rules}
+use lib.ListN.{take}
 use Rattle.model.specs.Lists.{all, within}
-use Rattle.model.specs.Soundness.{costs_in_range}
-use Rattle.lists.proofs.Tests.{first_none, all_first}
 use Rattle.model.specs.Limits.{max_cost}
 use Rattle.soundness.proofs.rows.costs_in_range.Given as goal
 

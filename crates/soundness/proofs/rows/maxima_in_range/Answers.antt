@@ -1,10 +1,9 @@
 use mathlib.Core.Path.{◌≡◌, sym}
-use Prim.Native.Nat.{◌≤◌, ◌-◌}
 use native.Mathlib.Omega.{arith}
 use lib.Seq.{take_all}
-use lib.ListN.{length, take}
+use lib.ListN.{length}
 use borrow.Author.Rules.{rules}
-use Rattle.model.specs.Lists.{all_stations, within, at}
+use Rattle.model.specs.Lists.{within, at}
 use Rattle.lists.proofs.Tests.{stations_none, stations_more}
 use Rattle.model.specs.Limits.{max_cost}
 use Rattle.soundness.specs.Rows.{maxima_hold}

@@ -1,14 +1,9 @@
 -- The test of the entries so far.
-use mathlib.Core.Path.{◌≡◌, sym}
+use mathlib.Core.Path.{◌≡◌}
 use Prim.Native.Nat.{◌≤◌, ◌-◌}
-use native.Mathlib.Omega.{arith}
-use lib.Seq.{take_all}
-use lib.ListN.{length, take}
-use borrow.Author.Rules.{rules}
+use lib.ListN.{take}
 use Rattle.model.specs.Lists.{all_stations, within, at}
-use Rattle.lists.proofs.Tests.{stations_none, stations_more}
 use Rattle.model.specs.Limits.{max_cost}
-use Rattle.soundness.specs.Rows.{maxima_hold}
 use Rattle.soundness.proofs.rows.maxima_in_range.Given as goal
 
 abbrev pub invariant-loop-k : goal.invariant-loop-k

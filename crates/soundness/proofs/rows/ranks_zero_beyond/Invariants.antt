@@ -1,13 +1,8 @@
 -- The test of the entries so far.
-use mathlib.Core.Path.{◌≡◌, sym}
+use mathlib.Core.Path.{◌≡◌}
 use Prim.Native.Nat.{◌≤◌, ◌-◌}
-use native.Mathlib.Omega.{arith}
-use lib.Seq.{take_all}
-use lib.ListN.{length, take, drop}
-use borrow.Author.Rules.{rules}
+use lib.ListN.{take, drop}
 use Rattle.model.specs.Lists.{all, is_zero}
-use Rattle.model.specs.Soundness.{zero_beyond}
-use Rattle.lists.proofs.Tests.{none_beyond, all-beyond}
 use Rattle.soundness.proofs.rows.ranks_zero_beyond.Given as goal
 
 abbrev pub invariant-loop-k : goal.invariant-loop-k

@@ -1,10 +1,9 @@
 use mathlib.Core.Path.{◌≡◌, sym}
-use Prim.Native.Nat.{◌≤◌, ◌-◌}
 use native.Mathlib.Omega.{arith}
 use lib.Seq.{take_all}
-use lib.ListN.{length, take, drop}
+use lib.ListN.{length}
 use borrow.Author.Rules.{rules}
-use Rattle.model.specs.Lists.{all, is_zero}
+use Rattle.model.specs.Lists.{is_zero}
 use Rattle.model.specs.Soundness.{zero_beyond}
 use Rattle.lists.proofs.Tests.{none_beyond, all-beyond}
 use Rattle.soundness.proofs.rows.zero_beyond.Goals as goal

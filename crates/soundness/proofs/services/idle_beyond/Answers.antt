@@ -1,10 +1,8 @@
 use borrow.Author.Rules.{rules}
 use native.Mathlib.Omega.{arith}
 use mathlib.Core.Path.{◌≡◌, sym}
-use Prim.Native.Nat.{◌-◌, ◌≤◌}
-use lib.ListN.{length, take, drop}
+use lib.ListN.{length}
 use lib.Seq.{take_all}
-use Rattle.model.specs.Lists.{all}
 use Rattle.model.specs.State.{idle}
 use Rattle.model.specs.Soundness.{is_idle}
 use Rattle.lists.proofs.Fills.{length_mapped}

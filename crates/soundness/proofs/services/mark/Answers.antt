@@ -1,5 +1,4 @@
 -- An order marks its own station where the entry there has its ticket, and else none.
-use borrow.Author.Rules.{rules}
 use Prim.Native.Nat.{◌-◌}
 use Rattle.model.specs.Image.{services_of}
 use Rattle.soundness.proofs.services.Marks.{in_range_lem, place, length_services, entry_is, marked_none, marked_ticket, marked_other}

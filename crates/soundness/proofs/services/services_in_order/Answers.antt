@@ -1,17 +1,11 @@
 use borrow.Author.Rules.{rules}
 use native.Mathlib.Omega.{arith}
 use mathlib.Core.Path.{◌≡◌, sym}
-use mathlib.Core.Bool.{Bool, ◌||◌}
-use mathlib.Core.List.{List}
-use Prim.Native.Nat.{ℕ, ◌-◌, ◌≤◌}
-use lib.ListN.{length, take}
+use lib.ListN.{length}
 use lib.Seq.{take_all}
-use Rattle.model.specs.declared.Order.{Order}
-use Rattle.model.specs.declared.Service.{Service}
-use Rattle.model.specs.Lists.{any, all_stations}
 use Rattle.model.specs.State.{idle}
 use Rattle.model.specs.Image.{orders_of, decode}
-use Rattle.model.specs.Soundness.{is_idle, serves, services_in_order}
+use Rattle.model.specs.Soundness.{services_in_order}
 use Rattle.lists.proofs.Fills.{length_mapped}
 use Rattle.lists.proofs.Tests.{stations_none, stations_more}
 use Rattle.soundness.proofs.services.Marks.{served_at_lem}

@@ -1,10 +1,9 @@
 use native.Mathlib.Omega.{arith}
 use mathlib.Core.Path.{◌≡◌}
-use Prim.Native.Nat.{◌-◌, ◌≤◌}
 use Rattle.model.specs.Bytes.{word}
 use Rattle.model.specs.Layout.{next_at}
 use Rattle.model.specs.Image.{live_count}
-use Rattle.soundness.proofs.Rising.{Passed, passed_none, passed_more, passed_all}
+use Rattle.soundness.proofs.Rising.{passed_none, passed_more, passed_all}
 use Rattle.soundness.proofs.tickets.tickets_in_order.Goals as goal
 
 pub loop-i-init : goal.loop-i-init

@@ -1,15 +1,8 @@
 use mathlib.Core.Path.{◌≡◌, sym, ap}
-use mathlib.Core.Bool.{◌&&◌}
-use Prim.Native.Nat.{◌≤◌, ◌-◌}
 use native.Mathlib.Omega.{arith}
-use borrow.Author.Rules.{rules}
-use borrow.Author.Tests.{not-true, not-false}
-use Rattle.model.specs.Lists.{all, is_zero}
-use Rattle.model.specs.Image.{orders_of}
 use Rattle.model.specs.Soundness.{zero_beyond}
 use Rattle.soundness.specs.declared.row_limits.Limits.{Limits}
 use Rattle.soundness.proofs.row_limits.LimitLaws.{made}
-use Rattle.soundness.specs.Holds.{record_holds}
 use Rattle.soundness.proofs.whole.RecordLaws.{held_none, held_more, held_fails}
 use Rattle.soundness.proofs.whole.all_hold.Goals as goal
 

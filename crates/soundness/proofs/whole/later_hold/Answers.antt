@@ -1,5 +1,4 @@
 -- Each clause is what its function says.
-use borrow.Author.Rules.{rules}
 use Rattle.soundness.proofs.whole.LaterLaws.{hold_is}
 use Rattle.soundness.proofs.whole.later_hold.Goals as goal
 

@@ -1,7 +1,6 @@
 -- The counts first, then the other clauses together.
 use mathlib.Core.Path.{refl, ◌∙◌}
 use native.Mathlib.Omega.{arith}
-use borrow.Author.Rules.{rules}
 use Rattle.model.specs.Bytes.{byte}
 use Rattle.model.specs.Layout.{live_count_at}
 use Rattle.soundness.proofs.whole.CountLaws.{counts_in_range, counts_unsound, later_sound}

@@ -2,7 +2,6 @@
 use native.Mathlib.Omega.{arith}
 use mathlib.Core.Path.{◌≡◌, sym}
 use Prim.Native.Nat.{◌+◌, ◌*◌}
-use borrow.Author.Rules.{rules}
 use Rattle.model.specs.Lists.{part, is_zero}
 use Rattle.model.specs.Layout.{records_at, record_size, station_at, station_zero_at, record_zero_at, record_part}
 use Rattle.lists.proofs.Tests.{all_append}

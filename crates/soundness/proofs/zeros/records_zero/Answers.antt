@@ -1,8 +1,6 @@
 use native.Mathlib.Omega.{arith}
 use mathlib.Core.Path.{◌≡◌, refl, sym}
-use Prim.Native.Nat.{◌≤◌, ◌-◌}
 use Rattle.model.specs.Lists.{is_zero, all, concat, upward}
-use Rattle.soundness.specs.Zeros.{record_zeros}
 use Rattle.lists.proofs.Tests.{all-rows}
 use Rattle.soundness.proofs.zeros.records_zero.Goals as goal
 

@@ -1,10 +1,8 @@
 -- The rows so far are zero: with one row more the test is the one so far and that of the row.
-use native.Mathlib.Omega.{arith}
-use mathlib.Core.Path.{◌≡◌, refl, sym}
+use mathlib.Core.Path.{◌≡◌}
 use Prim.Native.Nat.{◌≤◌, ◌-◌}
 use Rattle.model.specs.Lists.{is_zero, all, concat, upward}
 use Rattle.soundness.specs.Zeros.{service_zeros}
-use Rattle.lists.proofs.Tests.{all-rows}
 use Rattle.soundness.proofs.zeros.services_zero.Given as goal
 
 abbrev pub invariant-loop-i : goal.invariant-loop-i

@@ -1,7 +1,7 @@
 use native.Mathlib.Omega.{arith}
 use mathlib.Core.Path.{◌≡◌, sym, ◌∙◌}
-use Prim.Native.Nat.{◌+◌, ◌*◌, ◌-◌, ◌≤◌}
-use lib.ListN.{take, drop, drop_of_length-le}
+use Prim.Native.Nat.{◌+◌, ◌*◌}
+use lib.ListN.{take, drop_of_length-le}
 use lib.Seq.{length-take-le, take_all}
 use borrow.Author.Tests.{le-ltb}
 use Rattle.model.specs.Lists.{is_zero, all}

@@ -1,8 +1,5 @@
-use mathlib.Core.Path.{◌≡◌, refl, ◌∙◌}
-use Prim.Native.Nat.{◌≤◌, ◌-◌}
+use mathlib.Core.Path.{refl, ◌∙◌}
 use borrow.Author.Rules.{rules}
-use lib.ListN.{length}
-use Rattle.text.specs.Parts.{part_end}
 use Rattle.text.proofs.parts.PartLaws.{end_passes, end_at, end_last}
 use Rattle.text.proofs.parts.part_end.Goals as goal
 

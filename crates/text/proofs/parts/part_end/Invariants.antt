@@ -1,10 +1,8 @@
 -- The invariant: the part that is looked for ends where the part from place i on ends.
-use mathlib.Core.Path.{◌≡◌, refl, ◌∙◌}
+use mathlib.Core.Path.{◌≡◌}
 use Prim.Native.Nat.{◌≤◌, ◌-◌}
-use borrow.Author.Rules.{rules}
 use lib.ListN.{length}
 use Rattle.text.specs.Parts.{part_end}
-use Rattle.text.proofs.parts.PartLaws.{end_passes, end_at, end_last}
 use Rattle.text.proofs.parts.part_end.Given as goal
 
 abbrev pub invariant-loop-i : goal.invariant-loop-i

@@ -1,5 +1,5 @@
 -- Four printers, one after the other, in a buffer that has room for all of them.
-use Rattle.std.proofs.Common.{arith, rules}
+use Rattle.std.proofs.Common.{arith}
 use Rattle.lists.proofs.Stores.{put_then, put_length}
 use Rattle.trials.specs.CaseLines.{reply_line}
 use Rattle.trials.proofs.case_lines.Room.{figures_room, margin_room}

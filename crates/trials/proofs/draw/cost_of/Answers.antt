@@ -1,5 +1,5 @@
 -- By the test.
-use Rattle.std.proofs.Common.{arith, rules}
+use Rattle.std.proofs.Common.{arith}
 use Rattle.trials.proofs.Draws.{cost_inside, cost_beyond}
 use Rattle.trials.proofs.draw.cost_of.Goals as goal
 

@@ -1,5 +1,5 @@
-use Rattle.std.proofs.Common.{◌-◌, arith, rules}
-use Rattle.trials.proofs.Draws.{Drawing, drawing_start, drawing_next, drawing_end}
+use Rattle.std.proofs.Common.{arith, rules}
+use Rattle.trials.proofs.Draws.{drawing_start, drawing_next, drawing_end}
 use Rattle.trials.proofs.draw.draw_costs.Goals as goal
 
 pub loop-k-init : goal.loop-k-init

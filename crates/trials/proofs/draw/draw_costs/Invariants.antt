@@ -1,6 +1,6 @@
 -- The loop fills the row from the front, a step of the generator for each cost.
-use Rattle.std.proofs.Common.{◌-◌, arith, rules}
-use Rattle.trials.proofs.Draws.{Drawing, drawing_start, drawing_next, drawing_end}
+use Rattle.std.proofs.Common.{◌-◌}
+use Rattle.trials.proofs.Draws.{Drawing}
 use Rattle.trials.proofs.draw.draw_costs.Given as goal
 
 abbrev pub invariant-loop-k : goal.invariant-loop-k

@@ -1,5 +1,5 @@
 -- By the tests.
-use Rattle.std.proofs.Common.{arith, rules}
+use Rattle.std.proofs.Common.{arith}
 use Rattle.trials.proofs.Draws.{due_long, due_usual, due_short, due_between}
 use Rattle.trials.proofs.draw.draw_due_in.Goals as goal
 

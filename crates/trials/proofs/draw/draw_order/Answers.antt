@@ -1,5 +1,4 @@
 -- Each part is what its function says.
-use Rattle.std.proofs.Common.{rules}
 use Rattle.trials.specs.Draw.{drawn_block}
 use Rattle.trials.proofs.draw.draw_order.Goals as goal
 

@@ -1,5 +1,4 @@
 -- Each entry is what its function says.
-use Rattle.std.proofs.Common.{rules}
 use Rattle.trials.specs.Draw.{ranks}
 use Rattle.trials.proofs.draw.draw_ranks.Goals as goal
 

@@ -1,5 +1,4 @@
 -- By the definition, in 64 bits.
-use Rattle.std.proofs.Common.{arith, rules}
 use Rattle.trials.specs.Draw.{apart}
 use Rattle.trials.proofs.draw.jump.Goals as goal
 

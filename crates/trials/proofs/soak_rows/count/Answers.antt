@@ -1,5 +1,4 @@
 -- Each field is what its function says.
-use Rattle.std.proofs.Common.{rules}
 use Rattle.trials.specs.Run.{counted}
 use Rattle.trials.proofs.soak_rows.count.Goals as goal
 

@@ -1,5 +1,4 @@
 -- By the definition, in 64 bits.
-use Rattle.std.proofs.Common.{arith, rules}
 use Rattle.trials.specs.Digest.{folded}
 use Rattle.trials.proofs.soak_rows.fold.Goals as goal
 

@@ -1,5 +1,4 @@
-use Rattle.std.proofs.Common.{◌≡◌, ◌-◌, ◌≤◌, length, take, arith, rules}
-use Rattle.trials.specs.Digest.{digest_of}
+use Rattle.std.proofs.Common.{arith}
 use Rattle.trials.proofs.soak_rows.Digests.{digest_none, digest_more, digest_all}
 use Rattle.trials.proofs.soak_rows.fold_all.Goals as goal
 

@@ -1,7 +1,6 @@
 -- The loop has folded the first i bytes.
-use Rattle.std.proofs.Common.{◌≡◌, ◌-◌, ◌≤◌, length, take, arith, rules}
+use Rattle.std.proofs.Common.{◌≡◌, ◌-◌, ◌≤◌, length, take}
 use Rattle.trials.specs.Digest.{digest_of}
-use Rattle.trials.proofs.soak_rows.Digests.{digest_none, digest_more, digest_all}
 use Rattle.trials.proofs.soak_rows.fold_all.Given as goal
 
 abbrev pub invariant-loop-i : goal.invariant-loop-i

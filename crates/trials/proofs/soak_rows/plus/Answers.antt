@@ -1,5 +1,4 @@
 -- By the test.
-use Rattle.std.proofs.Common.{rules}
 use Rattle.trials.specs.Run.{more}
 use Rattle.trials.proofs.soak_rows.plus.Goals as goal
 

@@ -1,5 +1,5 @@
 -- Three printers, one after the other, in a buffer that has room for all of them.
-use Rattle.std.proofs.Common.{arith, rules}
+use Rattle.std.proofs.Common.{arith}
 use Rattle.lists.proofs.Stores.{put_then, put_length}
 use Rattle.trials.specs.Row.{row}
 use Rattle.trials.proofs.soak_rows.put_row.Goals as goal

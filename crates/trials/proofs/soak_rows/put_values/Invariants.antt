@@ -1,11 +1,8 @@
 -- The loop has printed the first i values, as rows of at most 11 bytes.
-use Rattle.std.proofs.Common.{◌+◌, ◌-◌, ◌*◌, ◌≤◌, arith, rules}
+use Rattle.std.proofs.Common.{◌+◌, ◌-◌, ◌*◌, ◌≤◌}
 use Rattle.model.specs.Lists.{concat, upward}
 use Rattle.lists.specs.Stored.{Put}
-use Rattle.lists.proofs.Stores.{put_length}
-use Rattle.text.proofs.Rows.{printed_none, printed_more, printed_all}
 use Rattle.image_text.proofs.report.Lengths.{number_row}
-use Rattle.trials.proofs.soak_rows.Values.{values_rows}
 use Rattle.trials.proofs.soak_rows.put_values.Given as goal
 
 abbrev pub invariant-loop-i : goal.invariant-loop-i
