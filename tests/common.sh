@@ -1,5 +1,5 @@
 # Read by the scripts of tests/ and bench/, which stand in the root of the repository.
-# Everything that they build is under target/, which `rt ci` removes. Scripts may run at the same time: a lock is held while rt builds.
+# Everything that they build is under target/. Scripts may run at the same time: a lock is held while rt builds.
 
 die() {
     echo "$*"
@@ -40,31 +40,47 @@ header_figure() {
     sed -nE "s/^#define DISPATCHER_$1 ([0-9]+)u?( .*)?$/\1/p" include/dispatcher.h
 }
 
-# newer_than_sources FILE: FILE is there and no source of a crate was changed after it was made.
-newer_than_sources() {
-    [ -e "$1" ] && [ -z "$(find crates crates.txt -newer "$1" -print -quit)" ]
+# copies_outside: $outside is a folder outside of the tree, removed when the script ends. What has sources of Rattle or links stands there, since `rt ci` refuses
+# both in every folder of the tree but the crates' own.
+copies_outside() {
+    outside=$(mktemp -d) || die "no temporary folder"
+    trap 'rm -rf "$outside"' EXIT
 }
 
-# made_by_rt FILE VERB NAME: FILE, which `rt VERB NAME` proves and writes, made anew if a source is newer.
+# newer_than_sources FILE: FILE is there and no source of a crate was changed after it was made.
+newer_than_sources() {
+    [ -e "$1" ] && [ -z "$(find crates.txt crates/*/{src,specs,proofs} -newer "$1" -print -quit 2> /dev/null)" ]
+}
+
+# made_by_rt FILE VERB CRATE MADE FLAG..: FILE, a copy of the crate's out/MADE, which `rt VERB FLAG ..` proves and writes there. It is made anew if a source is newer. What a
+# passed `rt ci` has left in out/ is taken as it is: it is linked once all is proved.
 made_by_rt() {
-    mkdir -p target
+    local folder=crates/$3 made=crates/$3/out/$4 log=target/rt-$2-$3.log status=0 flags=("${@:5}")
+    mkdir -p "$(dirname "$1")"
     exec 8> target/rt.lock
     flock 8
     if ! newer_than_sources "$1"; then
-        need rt "it proves and builds $1"
-        echo "rt $2 $3"
-        rt "$2" "$3" > "target/rt-$2-$3.log" 2>&1 || { tail -n 20 "target/rt-$2-$3.log"; die "rt $2 $3 failed"; }
-        [ -s "$1" ] || die "rt $2 $3 made no $1"
+        if ! newer_than_sources "$made"; then
+            need rt "it proves and builds $made"
+            echo "(cd $folder && rt $2 ${flags[*]})"
+            (cd "$folder" && rt "$2" "${flags[@]}") < /dev/null > "$log" 2>&1 || status=$?
+            # `rt run` ends with the status of the program, which it runs once it is proved and built.
+            if [ "$2" = run ]; then grep -q "^rt: running out/$4;" "$log" && status=0 || status=1; fi
+            [ "$status" -eq 0 ] || { tail -n 20 "$log"; die "rt $2 failed in $folder"; }
+            [ -s "$made" ] || die "rt $2 made no $made"
+        fi
+        cp "$made" "$1" || die "$made cannot be copied to $1"
     fi
     flock -u 8
 }
 
-# static_library NAME: target/staticlib/libNAME.a, proved. program NAME: target/bin/NAME, proved.
+# static_library NAME: target/staticlib/libNAME.a, proved, whose calls for C are those of the crate NAME_c, for every processor of x86-64: without the flag it
+# would need the instructions of x86-64-v2. program NAME: target/bin/NAME, proved.
 static_library() {
-    made_by_rt "target/staticlib/lib$1.a" staticlib "$1"
+    made_by_rt "target/staticlib/lib$1.a" lib "$1_c" "lib$1_c.a" --cpu x86-64
 }
 program() {
-    made_by_rt "target/bin/$1" check "$1"
+    made_by_rt "target/bin/$1" run "$1" "$1"
 }
 
 # put_between NAME FILE PAGE: FILE stands in PAGE between its two marker lines for NAME.

@@ -2,7 +2,7 @@
 """figures.py [ROOT]: the sizes, places and limits of documents 01 and 02 agree wherever they are stated.
 
 The definitions (crates/model/specs) state them, and so do the code of the crates, the C headers, and the tests in Python and in Rust. A figure has the same
-name everywhere: `recordSize` of the definitions is RECORD_SIZE. Every figure of the definitions stands in each of the others, but for those of LACKS, with the
+name everywhere: `record_size` of the definitions is RECORD_SIZE. Every figure of the definitions stands in each of the others, but for those of LACKS, with the
 same value, and so does every figure that the tests have besides. What the code has besides is its own. Then no other file has the length of an image as a bare
 number, reckons with the bare length of a record, of an order block, or of what stands before the records, or has a bare level of the second simulator.
 """
@@ -49,8 +49,7 @@ def number(text, where):
 def of_definitions(text, file):
     figures = {}
     for name, value in re.findall(r"^(\w+) = (\d+|(?:\d+ ∷ )+\[\])$", text, re.M):
-        snake = re.sub("[A-Z]", lambda capital: "_" + capital[0], name).upper()
-        figures[snake] = bytes(map(int, re.findall(r"\d+", value))) if "∷" in value else int(value)
+        figures[name.upper()] = bytes(map(int, re.findall(r"\d+", value))) if "∷" in value else int(value)
     return figures
 
 

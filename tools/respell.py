@@ -1,7 +1,7 @@
 #!/usr/bin/env python3
 """Spells the repository's own definitions, fields and lemmas as today's Rattle spells names: words in snake case, types in camel case.
 
-usage: python3 tools/respell.py       at the top of a checkout, once, after /opt/rattle/port/port.py
+usage: python3 tools/respell.py       at the top of a checkout, once, after the kit's port.py
 
 What turns: in crates/*/specs and crates/*/proofs the code and the code spans of comments; in crates/*/src the clauses and `ghost use` items, and the code
 spans of comments; in *.edit files the lines `old:` and `new:`; in the pages of docs/ the code spans of one name, in

@@ -29,9 +29,9 @@ plan_model  log_model   delay      image_laws  image       image       image
 plan_core   log_model   delay      call_laws   tick        soundness   soundness
 plan_text   log_model   runs       runs        tick        admission   image_text
 plan        log_laws    claims     claims      dispatcher  dispatcher  inspect
-planners    uses        auditor    auditor     log_lines   firmware    workshop
-trials      cases       soak       probe       log_reader  firmware    workshop
-trials      cases       soak       probe       rerun       van         workshop
+planners    uses        auditor    auditor     log_lines   dispatcher_c  workshop
+trials      cases       soak       probe       log_reader  firmware      workshop
+trials      cases       soak       probe_c     rerun       van           workshop
 """
 COLUMNS = [128, 128, 110, 126, 118, 140, 136]  # widths
 GAPS = [12, 34, 12, 34, 12, 12]  # between the columns
@@ -57,7 +57,8 @@ CRATES = {
     "soundness": ("code", "every clause of a sound image; questions 1 to 4"),
     "admission": ("code", "quote and offer: questions 6 to 12"),
     "tick": ("code", "advance: the course of one tick"),
-    "dispatcher": ("code", "the C interface: open, quote, offer, advance"),
+    "dispatcher": ("code", "the calls: open, quote, offer, advance"),
+    "dispatcher_c": ("code", "the C interface: the calls by their names in C"),
     "image_text": ("code", "an image explained"),
     "inspect": ("code", "the program: an image in, text out"),
     "log_lines": ("code", "a line of a log, its call made and compared"),
@@ -70,15 +71,16 @@ CRATES = {
     "cases": ("test", "program: document 01's counter examples, by calls"),
     "soak": ("test", "program: 100,000 calls, drawn by a generator"),
     "probe": ("test", "entries for tests and benchmark"),
+    "probe_c": ("test", "the same by their names in C"),
 }
-OPEN = ("dispatcher", "plan_core", "plan", "inspect", "rerun")  # what is handed out: the C library, plan over a lent list, the programs
+OPEN = ("dispatcher_c", "plan_core", "plan", "inspect", "rerun")  # what is handed out: the C library, plan over a lent list, the programs
 BEGIN = {"model": "for the definitions", "claims": "for what is promised", "dispatcher": "for the code"}
 
 # What stands outside: its name, what it does, and the crate that it comes to.
 OUTSIDE = {
     "planners": ("Planners", "run plan on a standing table", "plan"),
     "auditor": ("Auditor", "reads claims, docs/READING.md and the contracts", "claims"),
-    "firmware": ("Firmware", "calls what include/dispatcher.h declares", "dispatcher"),
+    "firmware": ("Firmware", "calls what include/dispatcher.h declares", "dispatcher_c"),
     "workshop": ("Workshop", "runs inspect on an image", "inspect"),
     "van": ("Service van", "brings logs to rerun", "rerun"),
 }
@@ -104,6 +106,7 @@ ARROWS = {
     "admission": "soundness",
     "tick": "image",
     "dispatcher": "admission tick",
+    "dispatcher_c": "dispatcher",
     "image_text": "soundness",
     "inspect": "image_text",
 }
@@ -120,6 +123,7 @@ NOTES = {
     "soak": "trials dispatcher console",
     "uses": "claims",
     "probe": "soundness plan_text",
+    "probe_c": "probe",
 }
 
 LEGEND = ("An arrow points to what is used. Left out are arrows that follow from others,", "and those to model and lists, which nearly all crates use.")
@@ -143,33 +147,35 @@ for code with its contracts. The `src/lib.rt` of a crate says what each of its m
 WALK_HEAD = """
 ## One offer, from the C entry to the bytes written
 
-A function is called in the module of the line that it stands under. Five crates, and downward only: `dispatcher`,
-`admission`, `soundness`, `image`, and `model`, which has no function on this way, but the records `Block` and `Order`,
-the limits, and the definition that the whole is proved to meet, `offerCall`. Of the crates of theorems nothing is run.
+A function is called in the module of the line that it stands under. Six crates, and downward only: `dispatcher_c`,
+`dispatcher`, `admission`, `soundness`, `image`, and `model`, which has no function on this way, but the records `Block`
+and `Order`, the limits, and the definition that the whole is proved to meet, `offer_call`. Of the crates of theorems
+nothing is run.
 """
 WALK = """
-dispatcher::offer::dispatcher_offer           the C entry: image, order block and reply are lent
-  dispatcher::offer_parts::first_number       questions 1 to 5
-    soundness::questions::number_to           1 to 4: the reply's length, the image's, its mark, and
-      soundness::whole::sound                 whether it is sound, clause by clause
-        image::decode::order_at               a record of the image as an Order
-          image::reader::u32_at               four bytes as a number
-  dispatcher::replies::put_decline            after a "no": its number into the reply, but for 1; the call ends here
-  admission::block::block_of                  after "yes" to all five: the order block as a Block
-  dispatcher::offer_parts::offered            what is left, the same for a block that stands for an order by format
-    admission::order_questions::offer         questions 6 to 12
-      image::decode::decode                   the state that the image says, once 6 to 10 pass
-      admission::margins::try_all             each live order with the arrival in its interference set
-        admission::interference::joined_by    its sum and maxima then
-        soundness::row_limits::counted_total  those of the maxima that its delay bound counts, added up
-      admission::decision::decide             11 and 12, by the margins
-    admission::decision::reply_of             number, ticket, tick and margin
-    dispatcher::replies::put_reply            the 16 bytes of the reply
-      image::writer::put_u32                  a number as four bytes
-    admission::acceptance::accept             after number 0 only: the image with the arrival accepted
-      image::encode::put_order                the record of each live order, and the arrival's
-        image::writer::put_eight_halves       eight costs or maxima as 16 bytes
-      image::encode::put_header               one more live order, and the next ticket
+dispatcher_c::dispatcher_offer                  the C entry: image, order block and reply are lent
+  dispatcher::offer::dispatcher_offer           the call, proved to meet its definition
+    dispatcher::offer_parts::first_number       questions 1 to 5
+      soundness::questions::number_to           1 to 4: the reply's length, the image's, its mark, and
+        soundness::whole::sound                 whether it is sound, clause by clause
+          image::decode::order_at               a record of the image as an Order
+            image::reader::u32_at               four bytes as a number
+    dispatcher::replies::put_decline            after a "no": its number into the reply, but for 1; the call ends here
+    admission::block::block_of                  after "yes" to all five: the order block as a Block
+    dispatcher::offer_parts::offered            what is left, the same for a block that stands for an order by format
+      admission::order_questions::offer         questions 6 to 12
+        image::decode::decode                   the state that the image says, once 6 to 10 pass
+        admission::margins::try_all             each live order with the arrival in its interference set
+          admission::interference::joined_by    its sum and maxima then
+          soundness::row_limits::counted_total  those of the maxima that its delay bound counts, added up
+        admission::decision::decide             11 and 12, by the margins
+      admission::decision::reply_of             number, ticket, tick and margin
+      dispatcher::replies::put_reply            the 16 bytes of the reply
+        image::writer::put_u32                  a number as four bytes
+      admission::acceptance::accept             after number 0 only: the image with the arrival accepted
+        image::encode::put_order                the record of each live order, and the arrival's
+          image::writer::put_eight_halves       eight costs or maxima as 16 bytes
+        image::encode::put_header               one more live order, and the next ticket
 """
 
 
@@ -198,9 +204,10 @@ def uses():
     for line in read("crates.txt").split("\n"):
         name, colon, rest = line.partition("#")[0].partition(":")
         if colon:
-            if name.strip() in found:
-                fail(f"crates.txt has {name.strip()} twice")
-            found[name.strip()] = rest.split()
+            name = name.split()[0]  # without the word of a static library
+            if name in found:
+                fail(f"crates.txt has {name} twice")
+            found[name] = rest.split()
     return found
 
 
@@ -255,7 +262,8 @@ def walk(used):
     lines = WALK.strip().split("\n")
     for line in lines:
         depth, name = (len(line) - len(line.lstrip())) // 2, line.split()[0]
-        crate, module, function = name.split("::")
+        crate, *module, function = name.split("::")  # with no module, in src/lib.rt
+        module = module[0] if module else "lib"
         source = read(f"crates/{crate}/src/{module}.rt")
         if not re.search(rf"\bfn {function}\(", source):
             fail(f"the walk of one offer has {name}, which is no function")

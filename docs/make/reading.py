@@ -12,7 +12,7 @@
    where it is kept, or it is overruled.
 6. The first part is `reading-opening.md`, in which `@section TITLE@` becomes a link to that section and `@number TITLE@` its number. It has words for every
    field of `Claims`, and the edits that it tells a reader to try fit the sources.
-7. The lines in which rt says that the crates are proved are taken from target/log, where `rt check claims` leaves them.
+7. The lines in which rt says that the crates are proved are taken from target/gate/rt-ci.log, where tests/run leaves what `rt ci` said.
 
 What was counted goes to standard error.
 """
@@ -24,6 +24,7 @@ from pathlib import Path
 ROOT = Path(sys.argv[1] if len(sys.argv) > 1 else ".")
 HERE = Path(__file__).resolve().parent
 PROVED_IN = "claims"
+LOG = "target/gate/rt-ci.log"
 STATEMENT = ("Claims", "Claims")
 DEMAND = "due_times"  # the field that the opening tells at length; it has every other in its table
 PROOF = ("claims", "crates/claims/proofs/Claims.antt")
@@ -73,7 +74,7 @@ FILES = [
         ("A fresh cabinet", ["Q~ open gives zeros and a fresh image (clock 0, next ticket 1)", "C: Tickets run from 1"], ["fresh"]),
     ]),
     ("model/specs/Lists.antt", "Words about lists and tests", [
-        ("Ranges and zero", ["C~ N stations, 1 to 8", "I~ zero bytes and unused records zero"], ["within", "isZero"]),
+        ("Ranges and zero", ["C~ N stations, 1 to 8", "I~ zero bytes and unused records zero"], ["within", "is_zero"]),
         ("The entry of a station, and a part of a list", ["C~ for each station, a cost in ticks (1 to 6,000) and a rank", "I~ Bytes 0 to 2"], ["at", "part"]),
         ("A quotient rounded up", ["i~ long side divided by speed, rounded up", "ii~ (R + deadline of i - 1) / period of i, rounded up"], ["rounded_up"]),
         ("Added up, the largest, the larger of two", ["D~ the largest station cost of each member, added up", "D~ the largest cost any member has there"],
@@ -86,10 +87,10 @@ FILES = [
     ]),
     ("model/specs/Tick.antt", "The course of one tick", [
         ("What it sees of a live order", ["C: An order has, for each station"], ["View"]),
-        ("What decides at a station", ["T: Each idle station", "v: Equal ranks should go", "C~ a rank (0 to 255, the smaller goes first)"], ["keyAt"]),
+        ("What decides at a station", ["T: Each idle station", "v: Equal ranks should go", "C~ a rank (0 to 255, the smaller goes first)"], ["key_at"]),
         ("Who goes before whom", ["T~ the one with the smallest rank there", "v: Equal ranks should go"], ["before", "precedes"]),
         ("Who goes first at a station", ["T~ the one with the smallest rank there"], ["better", "first"]),
-        ("Step 1, station by station", ["T: Each idle station", "R~ a start sets the ticks to go to the cost there"], ["entryOf", "startAt", "start_each"]),
+        ("Step 1, station by station", ["T: Each idle station", "R~ a start sets the ticks to go to the cost there"], ["entry_of", "start_at", "start_each"]),
         ("Step 2, at a station", ["T~ each order in service has one tick less to go"], ["one_less"]),
         ("Step 3, of an order and of a station", ["T: An order with nothing to go", "C~ visited 1, 2, .. N by every order"], ["station_after", "vacate"]),
         ("The ticket out", ["Q~ advance gives the ticket out or 0, the new clock, and 0"], ["ticket_out"]),
@@ -100,7 +101,7 @@ FILES = [
         ("The three steps in order", ["T: Advance does this", "Q~ advance gives the ticket out or 0"], ["advance", "advance_out"]),
     ]),
     ("model/specs/DelayBound.antt", "The delay sum", [
-        ("The members' largest costs, added up", ["D~ Delay sum of T = the largest station cost of each member, added up"], ["sumOf"]),
+        ("The members' largest costs, added up", ["D~ Delay sum of T = the largest station cost of each member, added up"], ["sum_of"]),
         ("The largest cost at each station", ["D~ the largest cost any member has there"], ["maxima_of"]),
         ("The delay sum", ["D~ plus, for each station before N, the largest cost any member has there", "D: With N = 1", "X: Adding the last",
                              "v~ Delay sums are untouched"], ["delay_bound"]),
@@ -115,9 +116,9 @@ FILES = [
     ]),
     ("model/specs/Layout.antt", "The places of the fields", [
         ("The header of the image", ["I: 2,128 bytes", "I: Bytes 0 to 2"],
-         ["image_size", "mark", "version", "version_at", "station_count_at", "live_count_at", "header_zero_at", "clock_at", "nextAt"]),
-        ("A station's entry", ["I: Then eight station entries"], ["services_at", "service_size", "servedAt", "leftAt", "service_zero_at"]),
-        ("A record", ["I: Then 32 records"], ["records_at", "record_size", "ticket_at", "accepted_at", "dueAt", "sumAt", "station_at", "station_zero_at", "ranks_at",
+         ["image_size", "mark", "version", "version_at", "station_count_at", "live_count_at", "header_zero_at", "clock_at", "next_at"]),
+        ("A station's entry", ["I: Then eight station entries"], ["services_at", "service_size", "served_at", "left_at", "service_zero_at"]),
+        ("A record", ["I: Then 32 records"], ["records_at", "record_size", "ticket_at", "accepted_at", "due_at", "sum_at", "station_at", "station_zero_at", "ranks_at",
                                               "costs_at", "maxima_at", "record_zero_at"]),
         ("The bytes of one entry, of one record", ["I~ Then eight station entries of 8 bytes", "I~ Then 32 records of 64 bytes"],
          ["service_part", "record_part"]),
@@ -131,7 +132,7 @@ FILES = [
         ("The live count", ["I~ then N, live count"], ["live_count"]),
         ("A station's entry and its bytes", ["I: Then eight station entries"], ["service_of", "service_bytes"]),
         ("A record and its bytes", ["I~ ticket, acceptance tick, due tick, sum of the company's largest costs (4 each); station (1); zero (3); eight ranks (1"
-                                    " each); eight costs (2 each); the company's largest cost at each station (2 each); zero (4)"], ["orderOf", "order_bytes"]),
+                                    " each); eight costs (2 each); the company's largest cost at each station (2 each); zero (4)"], ["order_of", "order_bytes"]),
         ("All entries, and so many records", ["I~ Then eight station entries", "I~ Then 32 records of 64 bytes, live ones first in ticket order"],
          ["services_of", "orders_of"]),
         ("What an image says", ["I: Bytes 0 to 2", "I~ live ones first in ticket order, the rest all zero"], ["decode"]),
@@ -161,7 +162,7 @@ FILES = [
         ("Zeros", ["Q: Declined", "Q~ open gives zeros"], ["zeros"]),
     ]),
     ("model/specs/Admission.antt", "An offer", [
-        ("An order block read, and its bytes", ["I: An order block is"], ["blockOf", "block_bytes"]),
+        ("An order block read, and its bytes", ["I: An order block is"], ["block_of", "block_bytes"]),
         ("The due tick", ["C: Due tick =", "iii: Due-in 0 is"], ["due_of"]),
         ("The newcomer's record", ["D: Offer tries the sums", "D: For an accepted order T", "R: It waits at station 1"], ["arrival"]),
         ("A live order that the newcomer joins", ["D: For an accepted order T", "D: Offer tries the sums"], ["joined_by", "joined_live"]),
@@ -205,7 +206,7 @@ FILES = [
         ("An accepted order", ["R~ every order accepted so far", "R~ with the new clock as its out tick"], ["Entry"]),
         ("The book", ["R: It holds N"], ["History"]),
         ("Its beginning", ["R: It starts with"], ["begun"]),
-        ("Live", ["R: In the book, live means"], ["isNone", "live", "live_orders"]),
+        ("Live", ["R: In the book, live means"], ["is_none", "live", "live_orders"]),
         ("The due tick", ["C: Due tick ="], ["entry_due"]),
         ("The company", ["D: For an accepted order T", "D: Members that are out", "X: Dropping an order"], ["members"]),
         ("Acceptance tick + delay sum", ["D: Delay sum of T", "R~ acceptance tick + delay sum"], ["entry_bound"]),
@@ -214,13 +215,13 @@ FILES = [
         ("Out", ["R: An order that is out", "T: An order with nothing to go"], ["leaves", "leave_in"]),
         ("The course of one tick, in the book", ["R~ the course of one tick, on the book's own stations and clock"], ["advance_in"]),
         ("The book is fed", ["R: The book is fed", "R: Quote, and any call", "i~ in demand 3's lists and in the run book it counts as that block"], ["feed"]),
-        ("Who is out at a tick", ["R~ the ticket out in the book, or 0"], ["isAt", "outAt"]),
+        ("Who is out at a tick", ["R~ the ticket out in the book, or 0"], ["is_at", "out_at"]),
     ]),
     ("model/specs/Runs.antt", "Lists of calls", [
         ("A call of the list, with its reply", ["R: Offers and quotes get"], ["Lent"]),
         ("The image and the book beside it", ["R~ gets the image as the call before left it", "R~ The book is fed the calls in turn"], ["Run"]),
         ("The beginning", ["R: A list starts"], ["started"]),
-        ("Call after call", ["R: Each call gets", "R: The book is fed"], ["outcome", "afterCall", "after_all"]),
+        ("Call after call", ["R: Each call gets", "R: The book is fed"], ["outcome", "after_call", "after_all"]),
         ("Which lists", ["R: Demand 3 speaks of", "i~ in demand 3's lists and in the run book it counts as that block"], ["Allowed", "AllAllowed"]),
         ("The stations during each tick of a list", ["T: Each idle station", "R: Each call gets"], ["during_call", "during_calls"]),
     ]),
@@ -231,7 +232,7 @@ FILES = [
         ("The claim", ["R: A list starts", "R: Demand 3 speaks of", "W: Demand 3 is over runs"], ["Demand3"]),
     ]),
     ("schedule/specs/Valid.antt", "Words for orders and stations", [
-        ("One of a list", OWN, ["_∈_"]),
+        ("One of a list", OWN, ["◌∈◌"]),
         ("The entry of a station", ["R~ for each station the ticket in service and the ticks to go"], ["serving"]),
         ("Cost and rank at a station", ["C: An order has, for each station"], ["cost", "rank"]),
         ("Waiting", ["T~ Each idle station with waiting orders"], ["Waits"]),
@@ -246,10 +247,10 @@ FILES = [
         ("The record of an accepted order", ["I~ ticket, acceptance tick, due tick, sum of the company's largest costs (4 each)",
                                              "I~ the company's largest cost at each station (2 each)"], ["record_over", "record_of"]),
         ("The state", ["R: It holds N", "R: In the book, live means", "I~ Then 32 records of 64 bytes, live ones first in ticket order",
-                       "C: Tickets run from 1"], ["stateOf"]),
+                       "C: Tickets run from 1"], ["state_of"]),
     ]),
     ("image_laws/specs/Iff.antt", "Exactly when", [
-        ("Each from the other", OWN, ["_⇔_"]),
+        ("Each from the other", OWN, ["◌⇔◌"]),
     ]),
     ("image_laws/specs/InRange.antt", "Bytes", [
         ("Fields of one byte, of two and of four", ["I~ eight ranks (1 each)", "i~ 2 bytes each", "I~ due-in (4)"], ["byte_limit", "half_limit", "word_limit"]),
@@ -383,7 +384,7 @@ FILES = [
     ]),
     ("plan_model/specs/Plan.antt", "Plan over task records", [
         ("Figures in range", ["S: Plan reads a table", "S~ period 1 to 60,000, deadline 1 to the period, costs 1 to 6,000", "S: Costs beyond N"],
-         ["are_costs", "inRange"]),
+         ["are_costs", "in_range"]),
         ("The number", ["S: It declines N by 14", "S~ returns its number, 0 when done"], ["plan_questions", "plan_number"]),
         ("The response of one task", ["S: Response: begin with"], ["response"]),
         ("The figures filled in", ["S: Plan fills base"], ["with_figures", "figured", "planned"]),
@@ -398,7 +399,7 @@ FILES = [
         ("Of every task of a done plan", ["S: The repetition ends", "S: On time means"], ["Meant", "Meaning"]),
         ("What is asked of a task", ["S: Plan reads a table"], ["Asked", "asked"]),
         ("What plan leaves", ["S~ a decline leaves the list alone", "S: Plan fills base"], ["Leaves"]),
-        ("Costs that are not read", ["S: Costs beyond N"], ["upTo", "NotRead"]),
+        ("Costs that are not read", ["S: Costs beyond N"], ["up_to", "NotRead"]),
     ]),
     ("plan_model/specs/Thesis.antt", "The thesis's count", [
         ("The published figure", ["S~ This is the published figure"], ["thesis_share", "thesis_next", "thesis_response", "thesis_responses"]),
@@ -412,20 +413,20 @@ FILES = [
     ]),
     ("text/specs/Number.antt", "Decimals that are read", [
         ("Their form", ["S~ without leading zeros (a lone 0 has the form)", "iv~ all single-spaced decimals without leading zeros"], ["is_digit", "no_leading_zero", "is_decimal"]),
-        ("Their value", ["C~ Numbers are decimal"], ["appended", "valueOf"]),
+        ("Their value", ["C~ Numbers are decimal"], ["appended", "value_of"]),
     ]),
     ("text/specs/Parts.antt", "Lines and words of a text", [
         ("Line feed and space", ["S~ single spaces, each line ended by a line feed"], ["line_feed", "space"]),
-        ("The parts between", ["S~ single spaces, each line ended by a line feed"], ["placed", "parts", "lastOf"]),
-        ("Lines and words", ["S~ single spaces, each line ended by a line feed", "iv~ each line ended by a line feed"], ["linesOf", "lines", "words"]),
+        ("The parts between", ["S~ single spaces, each line ended by a line feed"], ["placed", "parts", "last_of"]),
+        ("Lines and words", ["S~ single spaces, each line ended by a line feed", "iv~ each line ended by a line feed"], ["lines_of", "lines", "words"]),
     ]),
     ("plan_model/specs/Number.antt", "A number of the input", [
-        ("Its form", ["S~ unsigned decimals of 1 to 9 digits without leading zeros (a lone 0 has the form)"], ["isNumber"]),
+        ("Its form", ["S~ unsigned decimals of 1 to 9 digits without leading zeros (a lone 0 has the form)"], ["is_number"]),
     ]),
     ("plan_model/specs/Input.antt", "The plan program's input", [
         ("The first line", ["S~ first line N", "S~ 16 first line a number 1 to 8"], ["is_stations", "stations_of"]),
         ("The task lines", ["S~ 17 one to 32 task lines of that form", "S: The plan program reads"], ["is_numbers", "is_task_line", "is_task_lines"]),
-        ("The tasks", ["S~ then one line a task, `period deadline cost1 .. costN`"], ["taskOf", "task_at", "tasks_of"]),
+        ("The tasks", ["S~ then one line a task, `period deadline cost1 .. costN`"], ["task_of", "task_at", "tasks_of"]),
         ("Questions 15 to 18", ["S: Its questions"], ["form_questions", "input_questions", "input_number"]),
     ]),
     ("plan_model/specs/Output.antt", "The plan program's output", [
@@ -501,13 +502,13 @@ FILES = [
     ]),
     ("log_model/specs/Lines.antt", "The lines of a log", [
         ("A value and its field", ["iv~ all single-spaced decimals without leading zeros", "iv~ a value too large for its field"], ["fits", "fit_all"]),
-        ("A letter and fields", ["iv: A program reads one"], ["has_form", "valuesOf"]),
+        ("A letter and fields", ["iv: A program reads one"], ["has_form", "values_of"]),
         ("The `N` line", ["iv~ first `N` and the station count", "iv~ a station count outside 1 to 8"], ["stations_of", "is_stations"]),
         ("An `O` line", ["iv~ then a line `O` with due-in, N ranks, N costs, and the recorded number and ticket"], ["order_fields", "is_offer"]),
         ("A `T` line", ["iv~ or a line `T` with the recorded ticket out"], ["is_advance"]),
-        ("What a line records", ["iv~ due-in, N ranks, N costs, and the recorded number and ticket", "iv~ the recorded ticket out"], ["Line", "offered_by", "lineOf"]),
-        ("The call that it records", ["i~ block fields beyond N are zero", "I: An order block is"], ["to_eight", "callOf"]),
-        ("Its number and its ticket", ["iv~ the recorded number and ticket", "iv~ a `T` whose advance is declined disagrees"], ["numberOf", "ticket_of"]),
+        ("What a line records", ["iv~ due-in, N ranks, N costs, and the recorded number and ticket", "iv~ the recorded ticket out"], ["Line", "offered_by", "line_of"]),
+        ("The call that it records", ["i~ block fields beyond N are zero", "I: An order block is"], ["to_eight", "call_of"]),
+        ("Its number and its ticket", ["iv~ the recorded number and ticket", "iv~ a `T` whose advance is declined disagrees"], ["number_of", "ticket_of"]),
     ]),
     ("log_model/specs/Rounding.antt", "The last column", [
         ("To the nearest", ["iv~ rounded to nearest, a half upward"], ["nearest"]),
@@ -515,7 +516,7 @@ FILES = [
         ("What that means", ["iv~ rounded to nearest, a half upward; 0 when no tick passed"], ["Rounded", "ThousandthsMean"]),
     ]),
     ("log_model/specs/Rerun.antt", "The rerun", [
-        ("The reply that is lent", ["Q: Is the lent reply"], ["lent_reply", "lentOf"]),
+        ("The reply that is lent", ["Q: Is the lent reply"], ["lent_reply", "lent_of"]),
         ("Whether a line agrees", ["iv~ or `differs` and the number of the first line that disagrees; a `T` whose advance is declined disagrees"], ["agrees"]),
         ("A declined advance", ["iv~ a `T` whose advance is declined disagrees"], ["DeclinedDisagrees"]),
         ("The first line that disagrees", ["iv~ It runs the log from a fresh cabinet", "iv~ the number of the first line that disagrees"], ["first_difference", "differs_at"]),
@@ -523,12 +524,12 @@ FILES = [
         ("Busy ticks", ["iv~ busy ticks"], ["is_busy", "busy_ticks"]),
     ]),
     ("log_model/specs/Output.antt", "What the rerun prints", [
-        ("The form of each line", ["iv: Lines count from 1", "iv~ 21 for a line of another form"], ["isCall", "formed", "unended"]),
+        ("The form of each line", ["iv: Lines count from 1", "iv~ 21 for a line of another form"], ["is_call", "formed", "unended"]),
         ("The first line of another form", ["iv~ the first such line anywhere in the log", "iv~ Lines count from 1"], ["first_false", "refused_at"]),
         ("What a log says", ["iv: A program reads one"], ["stations_in", "calls_in"]),
         ("Its lines", ["iv~ is printed as `refused 21` and its line number in place of any result", "iv: Printed lines, here and"], ["refused_line", "differs_line"]),
         ("After `same`", ["iv: After `same`"], ["station_line", "same_lines", "busy_of"]),
-        ("What is printed", ["iv: It runs the log", "iv: Refused: 21"], ["resultOf", "rerun_output"]),
+        ("What is printed", ["iv: It runs the log", "iv: Refused: 21"], ["result_of", "rerun_output"]),
     ]),
     ("log_model/src/lib.rt", "The state of a log that is read", [
         ("What the ended lines make of it", FURTHER, ["Rerun"]),
@@ -536,7 +537,7 @@ FILES = [
     ]),
     ("log_model/specs/Reading.antt", "A log byte by byte", [
         ("The state and the image", FURTHER, ["Ran", "next_line", "settled"]),
-        ("A line of another form, and one passed over", [FURTHER, "iv~ the first such line anywhere in the log"], ["refused_here", "passedBy"]),
+        ("A line of another form, and one passed over", [FURTHER, "iv~ the first such line anywhere in the log"], ["refused_here", "passed_by"]),
         ("The first line", [FURTHER, "iv~ first `N` and the station count"], ["opened_with", "first_line"]),
         ("Ticks and busy ticks", [FURTHER, "iv~ station, busy ticks"], ["one_more", "occupied", "counted", "tick_passed", "after_line"]),
         ("A later line", [FURTHER, "iv~ or `differs` and the number of the first line that disagrees"], ["compared_by", "ran_line", "call_line", "line_ended"]),
@@ -560,7 +561,7 @@ FILES = [
         ("What same means", [FURTHER, "iv: It runs the log"], ["Recorded", "SameMeans"]),
         ("Which of the three", ["iv: It runs the log", "iv: Refused: 21", "iv: After `same`"], ["forms", "image_after", "Verdicts", "PrintsAsAsked"]),
         ("In any chunks", [FURTHER, "iv~ reads one from standard input"], ["WhateverChunks"]),
-        ("As the whole log", [FURTHER, "iv~ reads one from standard input"], ["readLog", "ReadsAsWhole"]),
+        ("As the whole log", [FURTHER, "iv~ reads one from standard input"], ["read_log", "ReadsAsWhole"]),
     ]),
     ("log_model/specs/Cases.antt", "Worked logs", [
         ("A log and what is printed", ["iv: It runs the log"], ["Rerunning", "is_rerun"]),
@@ -617,9 +618,9 @@ ELSEWHERE = [
     ("C: Documents 001 to 003", "nothing is taken from them"),
     ("C: A tick is 0.1 s.", "the definitions count ticks; include/dispatcher.h asks the firmware for an advance in each 0.1 s"),
     ("S~ the offers do not rest on it", "the order of this page shows it: plan's definitions come after all that the claims about calls rest on"),
-    ("E: N = 1, 32 orders", "not marked P; computed all the same, `thirtyTwoLive` (crates/model/specs/Cases.antt), and made by the program crates/cases"),
+    ("E: N = 1, 32 orders", "not marked P; computed all the same, `thirty_two_live` (crates/model/specs/Cases.antt), and made by the program crates/cases"),
     ("W: Every operation open", "the contracts, which stand in the section after the definitions; docs/CLAIMS.md, point by point"),
-    ("W: It is due whole", "`demand-3` (crates/claims/proofs/Demand3.antt), of all calls"),
+    ("W: It is due whole", "`demand_3` (crates/claims/proofs/Demand3.antt), of all calls"),
     ("W~ a program compares the remaining cases with stored output, and long runs with a second simulator by other hands",
      "the programs crates/cases and crates/soak; tests/README.md says what is compared with what"),
     ("i: Counters know", "why it was asked for"),
@@ -633,100 +634,92 @@ ELSEWHERE = [
     ("X: After it, a station's", "a form of the code: crates/tick/src/entries.rt"),
 ]
 
-# What the libraries' names mean. Each is looked up by the module that the `use` line names.
-LIBRARY = {
-    "the language": {
-        "Type": "`Type 0` is the type of types: a definition of type `Type 0` is a statement or a kind of data",
-        "Unit": "`Unit {0}`, the statement that says nothing",
-        "⊥": "the statement that never holds: `P → ⊥` says that P does not hold",
-        "×": "`P × Q`: P and Q; `(x : A) × P`: there is an x in A of which P holds",
-    },
-    "Prim.Native.Nat": {
-        "ℕ": "the numbers 0, 1, 2, .. without end",
-        "zero": "0",
-        "suc": "`suc n` is n + 1",
-        "_+_": "sum",
-        "_*_": "product",
-        "_-_": "difference, and 0 where the second number is the larger",
-        "_/_": "quotient, rounded down",
-        "_%_": "remainder",
-        "max": "the larger of two",
-        "_≤_": "at most, as a statement",
-        "_<_": "below, as a statement",
-    },
-    "mathlib.Core.Bool": {
-        "Bool": "the answers of a test",
-        "true": "yes",
-        "false": "no",
-        "cond": "`cond b x y` is x where b is true, and y where it is false",
-        "_&&_": "both",
-        "_||_": "one of the two at least",
-        "not": "the other answer",
-    },
-    "mathlib.Core.List": {
-        "List": "`List A`, lists of any length with entries in A",
-        "[]": "the empty list",
-        "_∷_": "`x ∷ l` is x and then the entries of l",
-        "_++_": "`l ++ m` is the entries of l and then those of m",
-        "map": "`map f l` is f of each entry of l, in order",
-        "foldl": "`foldl f x l` begins with x, and for each entry y of l in turn takes `f x y` in place of x",
-        "dropLast": "the list without its last entry; of the empty list, the empty list",
-        "List·Memᴰ": "`List·Memᴰ x l`: x is one of the entries of l",
-    },
-    "mathlib.Core.Option": {
-        "Option": "`Option A`, a value of A or none",
-        "none": "no value",
-        "some": "`some x` is the value x",
-    },
-    "mathlib.Core.Path": {"_≡_": "equal, as a statement"},
-    "mathlib.Core.Logic": {
-        "_≢_": "not equal, as a statement",
-        "_⊎_": "`P ⊎ Q`: P or Q, or both, as a statement",
-    },
-    "lib.ListN": {
-        "length": "the number of entries",
-        "getD": "`getD l i d` is the entry of l at place i, counted from 0, and d where there is none",
-        "take": "`take n l` is the first n entries, or all where there are fewer",
-        "drop": "`drop n l` is what follows the first n entries",
-        "replicate": "`replicate n x` is n times x",
-        "set": "`set l i x` is l with x at place i, counted from 0, and l where there is no such place",
-    },
-    "lib.Dec": {
-        "leb": "the test at most",
-        "ltb": "the test below",
-        "eqb": "the test equal",
-    },
-    "lib.IntN": {
-        "ℤ": "whole numbers",
-        "pos": "`pos n` is the whole number n",
-        "negsuc": "`negsuc n` is the whole number -(n + 1)",
-        "_-ℤ_": "difference of whole numbers",
-    },
-    "lib.Signed": {
-        "ltZ": "the test below, of whole numbers",
-        "mag": "`mag (pos n)` and `mag (negsuc n)` are n: `mag z < 2147483648` says that z is a signed number of 32 bits",
-    },
-    "Prim.Native.Char": {"code": "the code of a character, as a number"},
-    "Prim.Native.String": {
-        "String": "texts, written between quotation marks; `\\n` is a line feed",
-        "[]": "the empty text, named `none` where it is used",
-        "_∷_": "a character and then a text, named `_then_` where it is used",
-    },
+# What the libraries' names mean: those of the language, and those that `use` lines take from a module of the toolchain.
+LANGUAGE = {
+    "Type": "`Type 0` is the type of types: a definition of type `Type 0` is a statement or a kind of data",
+    "Unit": "`Unit {0}`, the statement that says nothing",
+    "⊥": "the statement that never holds: `P → ⊥` says that P does not hold",
+    "×": "`P × Q`: P and Q; `(x : A) × P`: there is an x in A of which P holds",
 }
+TOOLCHAIN = re.compile(r"(Rattle\.std|mathlib|Prim|lib|native)\.")
+LIBRARY = {
+    "ℕ": "the numbers 0, 1, 2, .. without end",
+    "zero": "0",
+    "suc": "`suc n` is n + 1",
+    "◌+◌": "sum",
+    "◌*◌": "product",
+    "◌-◌": "difference, and 0 where the second number is the larger",
+    "◌/◌": "quotient, rounded down",
+    "◌%◌": "remainder",
+    "max": "the larger of two",
+    "◌≤◌": "at most, as a statement",
+    "◌<◌": "below, as a statement",
+    "Bool": "the answers of a test",
+    "true": "yes",
+    "false": "no",
+    "cond": "`cond b x y` is x where b is true, and y where it is false",
+    "◌&&◌": "both",
+    "◌||◌": "one of the two at least",
+    "not": "the other answer",
+    "leb": "the test at most",
+    "ltb": "the test below",
+    "eqb": "the test equal",
+    "List": "`List A`, lists of any length with entries in A",
+    "[]": "the empty list",
+    "◌∷◌": "`x ∷ l` is x and then the entries of l",
+    "◌++◌": "`l ++ m` is the entries of l and then those of m",
+    "map": "`map f l` is f of each entry of l, in order",
+    "foldl": "`foldl f x l` begins with x, and for each entry y of l in turn takes `f x y` in place of x",
+    "drop_last": "the list without its last entry; of the empty list, the empty list",
+    "Memᴰ": "`Memᴰ x l`: x is one of the entries of l",
+    "length": "the number of entries",
+    "get_or": "`get_or l i d` is the entry of l at place i, counted from 0, and d where there is none",
+    "take": "`take n l` is the first n entries, or all where there are fewer",
+    "drop": "`drop n l` is what follows the first n entries",
+    "replicate": "`replicate n x` is n times x",
+    "set": "`set l i x` is l with x at place i, counted from 0, and l where there is no such place",
+    "Option": "`Option A`, a value of A or none",
+    "none": "no value",
+    "some": "`some x` is the value x",
+    "◌≡◌": "equal, as a statement",
+    "◌≢◌": "not equal, as a statement",
+    "◌⊎◌": "`P ⊎ Q`: P or Q, or both, as a statement",
+    "ℤ": "whole numbers",
+    "pos": "`pos n` is the whole number n",
+    "negsuc": "`negsuc n` is the whole number -(n + 1)",
+    "◌-ℤ◌": "difference of whole numbers",
+    "lt_z": "the test below, of whole numbers",
+    "mag": "`mag (pos n)` and `mag (negsuc n)` are n: `mag z < 2147483648` says that z is a signed number of 32 bits",
+    "code": "the code of a character, as a number",
+    "String": "texts, written between quotation marks; `\\n` is a line feed",
+}
+# Those of one module that has another thing by the same name.
+OF_MODULE = {
+    ("Prim.Native.String", "[]"): "the empty text, named `none` where it is used",
+    ("Prim.Native.String", "◌∷◌"): "a character and then a text, named `◌then◌` where it is used",
+}
+
+
+def meaning(source, name):
+    """What a name of a library means, or none."""
+    if source == "the language":
+        return LANGUAGE.get(name)
+    return OF_MODULE.get((source, name)) or (LIBRARY.get(name) if TOOLCHAIN.match(source) else None)
+
 
 # The contracts in code: open functions whose contracts cite the definitions, and the records that their contracts are.
 CODE = [
-    ("crates/dispatcher/src/open.rt", "dispatcher_open", ["open_call"]),
-    ("crates/dispatcher/src/offer.rt", "dispatcher_quote", ["quote_call"]),
-    ("crates/dispatcher/src/offer.rt", "dispatcher_offer", ["offer_call"]),
-    ("crates/dispatcher/src/format.rt", "dispatcher_quote_format", ["quote_format_call"]),
-    ("crates/dispatcher/src/format.rt", "dispatcher_offer_format", ["offer_format_call"]),
-    ("crates/dispatcher/src/advance.rt", "dispatcher_advance", ["advance_call"]),
-    ("crates/plan_core/src/lent.rt", "plan", ["plan_number", "after_plan"]),
-    ("crates/plan_text/src/print.rt", "print_plan", ["plan_output"]),
-    ("crates/log_reader/src/feed.rt", "begin", ["begun"]),
-    ("crates/log_reader/src/feed.rt", "feed", ["fed_all"]),
-    ("crates/log_reader/src/print.rt", "print", ["printed"]),
+    ("dispatcher_c", "dispatcher_open", ["open_call"]),
+    ("dispatcher_c", "dispatcher_quote", ["quote_call"]),
+    ("dispatcher_c", "dispatcher_offer", ["offer_call"]),
+    ("dispatcher_c", "dispatcher_quote_format", ["quote_format_call"]),
+    ("dispatcher_c", "dispatcher_offer_format", ["offer_format_call"]),
+    ("dispatcher_c", "dispatcher_advance", ["advance_call"]),
+    ("plan_core", "plan", ["plan_number", "after_plan"]),
+    ("plan_text", "print_plan", ["plan_output"]),
+    ("log_reader", "begin", ["begun"]),
+    ("log_reader", "feed", ["fed_all"]),
+    ("log_reader", "print", ["printed"]),
 ]
 GIVES = [("crates/dispatcher/specs/Gives.antt", ["Gives"]), ("crates/lists/specs/Stored.antt", ["Stored", "Put"])]
 
@@ -833,6 +826,8 @@ class Structs:
         for line in read(path).split("\n"):
             if line.startswith("//"):
                 comment.append(line)
+            elif line.startswith("#[") and not code:
+                pass  # an attribute, as #[derive(Clone, Copy)], says nothing of what is meant
             elif line.startswith(("pub struct ", "pub enum ")) or code:
                 code.append(line)
                 if line == "}":
@@ -853,11 +848,11 @@ MODULES = {}
 
 def module_of(name, asking):
     """The module that a whole name leads to: a file of specs of a crate, a struct of its code, or none, where it is a library's."""
-    found = re.fullmatch(r"Rattle·(\w+?)(·specs)?\.specs\.(.+)", name)
-    if not found:
-        if name.startswith("Rattle"):
-            fail(f"{asking}: {name} is no module of definitions")
+    found = re.fullmatch(r"Rattle\.(\w+)\.(?:(specs)\.)?(.+)", name)
+    if not found or not (ROOT / "crates" / found.group(1)).is_dir():
         return None
+    if not found.group(2):
+        fail(f"{asking}: {name} is no module of definitions")
     crate, rest = found.group(1), found.group(3)
     declared = rest.startswith("declared.")
     key = (crate, "declared" if declared else rest)
@@ -880,7 +875,7 @@ def bound_in(definition, text):
         names.update(group.split())
     names.update(re.findall(r"\blet\s+(\S+)", text))
     head = re.escape(definition.name)
-    if re.fullmatch("_.+_", definition.name):
+    if re.fullmatch("◌.+◌", definition.name):
         head = rf"(?=\S+ {re.escape(definition.name[1:-1])} )"
     for arguments in re.findall(rf"^{head} ?([^=]*)=(?=\s|$)", text, re.M):
         names.update(t.strip(".") for t in TOKEN.findall(arguments))
@@ -913,19 +908,25 @@ def resolve(definition):
         else:
             fail(f"{module.path}: {source} has no {original}")
     for name in list(scope):
-        if name.startswith("_") and name.endswith("_") and len(name) > 2:
+        if name.startswith("◌") and name.endswith("◌") and len(name) > 2:
             scope[name[1:-1]] = scope[name]
-    for name in LIBRARY["the language"]:
+    for name in LANGUAGE:
         scope.setdefault(name, ("library", ("the language", name)))
     own_words = {definition.name, *definition.fields, *definition.constructors}
-    own_words |= {own.strip("_") for own in own_words}
+    own_words |= {own.strip("◌") for own in own_words}
     for place, token in enumerate(tokens):
-        if token.startswith(".") and len(token) > 1:
-            projected.add(token[1:].strip("«»"))
+        if token == ".":
             continue
-        word = token.strip("«»")
+        if token.startswith("."):
+            projected.update(x for x in token.split(".") if x)
+            continue
+        word = token
         if len(word) > 1 and word.endswith("."):
             word = word[:-1]
+        # A projection is written tight, `r.field`; but for a name of a module that a `use` line brings in.
+        if "." in word and word.split(".")[0] not in module.aliases:
+            word, *fields = word.split(".")
+            projected.update(fields)
         if word in KEYWORDS or word in "(){};," or re.fullmatch(r"[0-9]+", word):
             continue
         if word in built and place + 1 < len(tokens) and tokens[place + 1] == "=" and tokens[place - 1] in ("{", ";"):
@@ -942,7 +943,8 @@ def resolve(definition):
                 used.add(other.declared[name])
             continue
         # A word that is bound here and also names something outside is followed too: more may be read than is needed, but nothing is missed.
-        if word in scope and word not in own_words:
+        # So is a name that is imported and that a field has as well, as in `pub chapter_six : is_printed chapter_six ≡ true`.
+        if word in scope and (word not in own_words or word in module.imports):
             kind, target = scope[word]
             (library if kind == "library" else used).add(target)
             continue
@@ -1176,30 +1178,35 @@ def proved():
         if name not in reached:
             reached.append(name)
             waiting += uses[name]
-    lines = {}
+    if not (ROOT / LOG).is_file():
+        fail(f"there is no {LOG}: run `rt ci {PROVED_IN} > {LOG}` first, or tests/run")
+    log = read(LOG)
     for name in reached:
-        log = ROOT / "target" / "log" / f"{name}.say"
-        if not log.is_file():
-            fail(f"target/log has nothing of crate {name}: run `rt check {PROVED_IN}` first")
-        said = [x for x in log.read_text(encoding="utf-8").split("\n") if x.startswith("logic=")]
-        if len(said) != 1 or not said[0].startswith("logic=proved "):
-            fail(f"crate {name} is not proved: {said}")
-        if "foreign=" in said[0] or "axioms=" in said[0] or re.search(r"^axioms ", log.read_text(encoding="utf-8"), re.M):
-            fail(f"crate {name} rests on something assumed: {said[0]}")
-        lines[name] = said[0]
-    return lines, [n for n in uses if n in reached]
+        # Proved in this run, or kept from an earlier one that proved the same files.
+        if not re.search(rf"^rt: {name} (proved$|is kept: )", log, re.M):
+            fail(f"crate {name} is not proved: {LOG} does not say it")
+        for part in re.findall(rf"^== {name}\n(.*?)^rt: {name} ", log, re.M | re.S):
+            said = re.findall(r"^logic=.*", part, re.M)
+            if len(said) != 1 or not said[0].startswith("logic=proved "):
+                fail(f"crate {name} is not proved: {said}")
+            if "foreign=" in said[0] or "axioms=" in said[0] or re.search(r"^axioms ", part, re.M):
+                fail(f"crate {name} rests on something assumed: {said[0]}")
+    return [n for n in uses if n in reached]
 
 
-def contract(path, name, cites):
-    """The head of a function of code, with its contract."""
-    text = read(path)
-    found = re.search(rf'^pub (extern "C" )?fn {name}\(.*?(?=^\{{)', text, re.M | re.S)
-    if not found:
-        fail(f"{path} has no {name}")
-    head = found.group(0)
+def contract(crate, name, cites):
+    """The file of an open function of a crate, and the function's head with its contract."""
+    places = []
+    for file in sorted((ROOT / "crates" / crate / "src").glob("**/*.rt")):
+        found = re.search(rf'^pub (extern "C" )?fn {name}\(.*?(?=^\{{)', file.read_text(encoding="utf-8"), re.M | re.S)
+        if found:
+            places.append((file.relative_to(ROOT).as_posix(), found.group(0)))
+    if len(places) != 1:
+        fail(f"crates/{crate}/src has {len(places)} open functions {name}")
+    path, head = places[0]
     if "requires" in head or not all(re.search(rf"[(≡] ?{cite} ", head) for cite in cites):
         fail(f"{path}: the contract of {name} is not that it gives {' and '.join(cites)}, for all arguments")
-    return head.rstrip("\n").split("\n")
+    return path, head.rstrip("\n").split("\n")
 
 
 class Reading:
@@ -1326,11 +1333,13 @@ def account(letters, reasons):
 def library_names(found):
     """The libraries' names that the definitions use, each with a meaning in the table, and no other there."""
     names = {x for _, library, _ in found.values() for x in library}
-    listed = {(source, name) for source, meanings in LIBRARY.items() for name in meanings}
-    for source, name in sorted(names - listed):
-        fail(f"{name} of {source} has no meaning in the table LIBRARY")
-    for source, name in sorted(listed - names):
-        fail(f"the table LIBRARY has {name} of {source}, which no definition uses")
+    for source, name in sorted(names):
+        if meaning(source, name) is None:
+            fail(f"{name} of {source} has no meaning in the table LIBRARY")
+    for name in sorted({*LANGUAGE, *LIBRARY} - {name for place, name in names if (place, name) not in OF_MODULE}):
+        fail(f"the table LIBRARY has {name}, which no definition uses")
+    for source, name in sorted(OF_MODULE.keys() - names):
+        fail(f"the table OF_MODULE has {name} of {source}, which no definition uses")
     return names
 
 
@@ -1362,10 +1371,10 @@ def opening_of(values, facts, sections):
 def code_lines():
     """The contracts of the open functions, and the records that they are."""
     lines = wrapped("Not part of `Claims`, but what joins it to the code that is built: the contracts of the C functions, of plan over a lent list and of"
-                    " what the plan program prints, in which the definitions above are cited. `image .entry` is the buffer before the call and `image .exit`"
-                    " after it, `now` is what it holds, and r what is returned. What stands between `⌜` and `⌝` is the fact that is promised, and"
-                    " `ensures within` promises one more. There is no `requires`: the contracts hold for all arguments. In the records, `sets l i vs` is"
-                    " the list l with the entries of vs stored in turn from place i on, as far as l goes.")
+                    " what the plan program prints, in which the definitions above are cited. `image.old` is what a buffer holds before the call and `image.new`"
+                    " what it holds after it, `image.now` what one holds that is lent for reading, and `result` what is returned. What stands between the braces"
+                    " of an `ensures` is the fact that is promised; where there are several, each has a name. There is no `requires`: the contracts hold for all"
+                    " arguments. In the records, `sets l i vs` is the list l with the entries of vs stored in turn from place i on, as far as l goes.")
     lines += ["", "```"]
     for path, names in GIVES:
         module = Module(Path(path).stem, path)
@@ -1373,8 +1382,9 @@ def code_lines():
         for name in names:
             lines += [*([""] if module.declared[name].comment else []), *module.declared[name].comment, *module.declared[name].code]
         lines.append("")
-    for path, name, cites in CODE:
-        lines += [f"// {path}", *contract(path, name, cites), ""]
+    for crate, name, cites in CODE:
+        path, head = contract(crate, name, cites)
+        lines += [f"// {path}", *head, ""]
     return lines[:-1] + ["```"]
 
 
@@ -1398,16 +1408,17 @@ def overruled_lines():
     return lines
 
 
-def library_lines():
+def library_lines(names):
     lines = ["| name | module | meaning |", "|---|---|---|"]
-    for source, meanings in LIBRARY.items():
-        module = source if source == "the language" else f"`{source}`"
-        lines += [f"| `{name}` | {module} | {meaning} |".replace("`_||_`", "`_\\|\\|_`") for name, meaning in meanings.items()]
-    return lines
+    for name in [*LANGUAGE, *LIBRARY]:
+        sources = sorted(source for source, other in names if other == name and (source, name) not in OF_MODULE)
+        modules = ", ".join(source if source == "the language" else f"`{source}`" for source in sources)
+        lines.append(f"| `{name}` | {modules} | {meaning(sources[0], name)} |".replace("`◌||◌`", "`◌\\|\\|◌`"))
+    return lines + [f"| `{name}` | `{source}` | {words} |" for (source, name), words in OF_MODULE.items()]
 
 
 def main():
-    statement = module_of(f"Rattle·{PROVED_IN}·specs.specs.{STATEMENT[0]}", "reading.py").declared[STATEMENT[1]]
+    statement = module_of(f"Rattle.{PROVED_IN}.specs.{STATEMENT[0]}", "reading.py").declared[STATEMENT[1]]
     found = closure_of(statement)
     if not re.search(rf"^pub {re.escape(PROOF[0])} : {STATEMENT[1]}$", read(PROOF[1]), re.M):
         fail(f"{PROOF[1]} has no {PROOF[0]} : {STATEMENT[1]}")
@@ -1417,7 +1428,7 @@ def main():
     body = reading.lines()
     reasons = kept_elsewhere()
     names = library_names(found)
-    verdicts, crates = proved()
+    crates = proved()
     values = {
         "definitions": len(found),
         "structs": sum(1 for d in found if d.kind in ("struct", "enum")),
@@ -1429,12 +1440,12 @@ def main():
         "document 01": account(ACCOUNTED, reasons),
         "landed": f"{len(LANDED)} of {len(REQUESTS)}",
         "document 02": account(LANDED, reasons),
-        "verdicts": "\n".join(f"{name}: {verdicts[name]}" for name in crates),
+        "verdicts": "\n".join(f"rt: {name} proved" for name in crates),
     }
     page = opening_of(values, (statement.fields, f"`{STATEMENT[1]}`", f"`{statement.module.path}`", f"`{PROOF[0]}` (`{PROOF[1]}`)"), reading.sections)
     tail = [("The contracts in code", code_lines()), ("Sentences that no definition renders", elsewhere_lines(reasons)),
             ("Sentences that are overruled", overruled_lines()),
-            ("Names of the libraries", library_lines()), ("Index", reading.index())]
+            ("Names of the libraries", library_lines(names)), ("Index", reading.index())]
     page += ["", "## Contents", ""]
     for number, _, title, _, groups in reading.sections:
         count = sum(len(group[2]) for group in groups)
@@ -1447,7 +1458,7 @@ def main():
     sys.stdout.write("\n".join(page).rstrip("\n") + "\n")
     counts = ("{definitions} definitions, {lines} lines, {files} files; {names} library names; quotations in comments, all found: {quoted}; sentences of"
               " document 01, {document 01}; of document 02, {landed} requests, {document 02}").format(**values)
-    print(f"{counts}; {len(crates)} crates proved, axioms=0", file=sys.stderr)
+    print(f"{counts}; {len(crates)} crates proved, none with axioms", file=sys.stderr)
 
 
 main()

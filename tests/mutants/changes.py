@@ -156,7 +156,7 @@ class File:
             yield from self.exchanged(i) if t[i] == "-" else ()
         elif t[i] in LOGIC and follows:
             yield "logic", (i, i, LOGIC[t[i]])
-        elif t[i] == "!":
+        elif t[i] == "!" and not (NAME.match(t[i - 1]) and self.span[i - 1][1] == self.span[i][0]):  # not that of a macro's call
             yield "logic", (i, i, "")
         elif number and t[i - 1] != "." and not (t[i - 1] == ";" and t[i + 1] == "]"):
             value = int(number.group(1))
@@ -183,6 +183,11 @@ class File:
             if len(at) == 1:
                 a, b = (i + 1, at[0] - 1) if t[i + 1].isdigit() else (at[0] + 1, brace - 1)
                 yield from (("bound", (a, b, f"{self.words(a, b)} {sign} 1")) for sign in "+-" if sign == "+" or t[a] != "0")
+        elif t[i] == "for":
+            brace = t.index("{", i)
+            at = [j for j in range(i, brace) if t[j] in ("..", "..=")]
+            if len(at) == 1 and at[0] + 1 < brace:
+                yield from (("bound", (at[0] + 1, brace - 1, f"{self.words(at[0] + 1, brace - 1)} {sign} 1")) for sign in "+-")
         elif NAME.match(t[i]) and t[i] not in WORDS:
             begins = t[i - 1] in ("{", "}", ";")
             if begins:

@@ -10,7 +10,7 @@ First the edits of tests/mutants/edits, which have the form of must-fail edits, 
 entry of tests/mutants/same is a change of it.
 
 A function is proved from its own body and from the contracts of what it calls, so one check judges changes of several functions of a crate, one in each. It
-begins with a copy of what a check of the unchanged crate left (`rattle check --incremental`).
+begins with a copy of what `rt check` of the unchanged crate left (`rattle check --incremental`), and is made in a copy of the crate outside of the tree.
 
 Printed is how many were refused for a fact, and how many only because the proof no longer fits the code's shape; how many the compiler does not take for a
 program; and how many are accepted. Those that are accepted have to be the ones of tests/mutants/same, where each has its reason: by reading, it is the same
@@ -26,6 +26,7 @@ import shutil
 import signal
 import subprocess
 import sys
+import tempfile
 import threading
 import time
 from pathlib import Path
@@ -34,14 +35,19 @@ from changes import File, known_of
 
 ROOT = Path(__file__).resolve().parent.parent.parent
 HERE = ROOT / "tests/mutants"
-ROOM = ROOT / "target/mutants"
+sys.path.insert(0, str(ROOT / "tests"))
+from kit import Kit
+
+TOLD = ROOT / "target/mutants"
 # Not part of the product: what tests and the benchmark call, and the programs that try the calls. The functions `main` of the programs have no contract.
-NOT_PRODUCT = {"trials", "probe", "cases", "soak"}
+NOT_PRODUCT = {"trials", "probe", "probe_c", "cases", "soak"}
 AT_ONCE = 16  # functions that are changed in one check
 LIMIT = 240  # seconds that a check may take
 # Refused, but for no fact: the proof speaks of needs, values or branches that the code has no more.
 SHAPE = re.compile(r"is not in scope|has no `|has no field|pattern needs a function|binders, but its type has room|a dimension .* is expected")
 DERIVED = re.compile(r"was not admitted .* so this cannot be checked")
+# Of a function that only calls one that is not proved, this says nothing.
+CALLS = re.compile(r"it calls .* (is|are) not proved|was not admitted")
 VERDICTS = ("refused", "shape", "no program", "accepted")
 
 
@@ -89,27 +95,19 @@ class Prover:
     """`rattle check` of a crate, as rt calls it."""
 
     def __init__(self):
-        said = subprocess.run(["rt", "doc"], capture_output=True, text=True, check=True).stdout.strip()
-        self.home = Path(said).parent.parent
-        self.own = self.home / "on" / os.uname().machine
-        self.uses = {}
-        for line in (ROOT / "crates.txt").read_text(encoding="utf-8").split("\n"):
-            name, colon, rest = line.partition("#")[0].partition(":")
-            if colon:
-                self.uses[name.strip()] = rest.split()
+        self.kit = Kit(ROOT)
 
-    def words(self, crate, folder):
-        kit, made = self.own / "rlib", ROOT / "target/rlib"
-        words = ["--crate-name", crate, str(folder / "src/lib.rt"), "--extern", f"std={kit / 'std.rlib'}"]
-        for d in self.uses[crate]:
-            words += ["--extern", f"{d}={(made if d in self.uses else kit) / (d + '.rlib')}"]
-        return words + ["-L", f"dependency={made}", "-L", f"dependency={kit}", "--antt-project", str(self.home / "logic/antt-project.json"),
-                        "--logic-built", str(self.own / "logic-built")]
+    def begin(self, crate):
+        """`rt check` of a crate as it is: its libraries are built, and what was proved is kept in out/. What it said, and its exit status."""
+        run = subprocess.run(["rt", "check"], cwd=ROOT / "crates" / crate, stdin=subprocess.DEVNULL, stdout=subprocess.PIPE, stderr=subprocess.STDOUT,
+                             text=True, errors="replace")
+        return run.stdout, run.returncode
 
     def check(self, crate, folder, kept):
         """What it said, and its exit status (none at the limit)."""
-        words = [str(self.home / "bin/rattle"), "check", *self.words(crate, folder), "--incremental", str(kept)]
-        run = subprocess.Popen(words, stdout=subprocess.PIPE, stderr=subprocess.STDOUT, text=True, errors="replace", start_new_session=True)
+        words = self.kit.call("check", crate, "--incremental", str(kept))
+        run = subprocess.Popen(words, cwd=folder, stdin=subprocess.DEVNULL, stdout=subprocess.PIPE, stderr=subprocess.STDOUT, text=True, errors="replace",
+                               start_new_session=True)
         try:
             return run.communicate(timeout=LIMIT)[0], run.returncode
         except subprocess.TimeoutExpired:
@@ -117,11 +115,24 @@ class Prover:
             return run.communicate()[0], None
 
 
+def linked(folder, to):
+    """A copy of what was kept. What was proved is linked: a check replaces such a file, and changes none."""
+    def put(one, other):
+        try:
+            if one.endswith(".oantt"):
+                return os.link(one, other)
+        except OSError:
+            pass
+        return shutil.copy2(one, other)
+
+    shutil.copytree(folder, to, copy_function=put)
+
+
 class Desk:
     """A worker: a copy of a crate, in which mutants are put and taken out again."""
 
-    def __init__(self, prover, number):
-        self.prover, self.folder, self.number = prover, ROOM / f"desk-{number}", number
+    def __init__(self, prover, room, number):
+        self.prover, self.room, self.folder, self.number = prover, room, room / f"desk-{number}", number
 
     def copy(self, crate, mutants):
         shutil.rmtree(self.folder, ignore_errors=True)
@@ -142,7 +153,7 @@ class Desk:
     def ask(self, crate, mutants):
         self.copy(crate, mutants)
         kept = self.folder / "kept"
-        shutil.copytree(ROOM / "kept" / crate, kept)
+        linked(self.room / "kept" / crate, kept)
         return self.prover.check(crate, self.folder, kept)
 
     def judge(self, crate, mutants):
@@ -193,8 +204,8 @@ class Desk:
             m.verdict = "accepted"
             return True
         folder = "/".join(["proofs", *m.function.split("::")])
-        own = [e for e in re.findall(rf"^\S*/{re.escape(folder)}/\S* error: .*(?:\n  .*)*", said, re.M) if not DERIVED.search(e)]
-        reason = own[0] if own else "" if re.search(r"not proved; it calls|was not admitted", line.group(1)) or line.group(1) == "not proved" else line.group(1)
+        own = [e for e in re.findall(rf"^(?:\S*/)?{re.escape(folder)}/\S* error: .*(?:\n  .*)*", said, re.M) if not DERIVED.search(e)]
+        reason = own[0] if own else "" if CALLS.search(line.group(1)) or line.group(1) == "not proved" else line.group(1)
         if reason:
             m.verdict, m.said = "shape" if SHAPE.search(reason) else "refused", reason
         return bool(reason)
@@ -210,8 +221,9 @@ class Desk:
 
 
 def first_error(said):
-    """The first error with the lines that belong to it; of a function without a proof file, which need the search does not close."""
-    found = re.search(r"^\S* error(?:\[\S*\])?: .*(?:\n  .*)*", said, re.M) or re.search(r"^fn .*does not close.*", said, re.M)
+    """The first error with the lines that belong to it; where a goal is left that no proof file answers, what is not proved there."""
+    found = re.search(r"^\S* error(?:\[\S*\])?: .*(?:\n  .*)*", said, re.M) or re.search(r"^note: \S+:\d+:\d+: it is not proved .*", said, re.M)
+    found = found or re.search(r"^fn \S+: (?:no proof|not proved).*", said, re.M)
     return found.group(0) if found else said[-300:]
 
 
@@ -219,8 +231,7 @@ def first_error(said):
 
 def listed():
     """The libraries of crates.txt."""
-    names = [line.partition(":")[0].strip() for line in (ROOT / "crates.txt").read_text(encoding="utf-8").split("\n") if ":" in line.partition("#")[0]]
-    return [c for c in names if (ROOT / "crates" / c / "src/lib.rt").exists()]
+    return [c for c in Kit(ROOT).uses if (ROOT / "crates" / c / "src/lib.rt").exists()]
 
 
 def is_product(crate):
@@ -347,13 +358,20 @@ def main():
         drawn = drawn[:given.count]
     print(f"seed {given.seed}: {len(fixed)} edits, {len(drawn)} of {everything} changes, in {len(crates)} crates", flush=True)
 
+    # Outside of the tree, since `rt ci` refuses a source of Rattle anywhere but in crates/.
+    with tempfile.TemporaryDirectory() as room:
+        sys.exit(tried(Path(room), crates, fixed, drawn, whole, given.jobs, draw, began))
+
+
+def tried(room, crates, fixed, drawn, whole, jobs, draw, began):
+    """Tries them, and reports; 1 if there is one to look at."""
     prover = Prover()
-    shutil.rmtree(ROOM, ignore_errors=True)
+    (room / "kept").mkdir()
     for c in crates:
-        (ROOM / "kept" / c).mkdir(parents=True)
-        said, status = prover.check(c, ROOT / "crates" / c, ROOM / "kept" / c)
+        said, status = prover.begin(c)
         if status != 0:
             sys.exit(f"{c} is not proved as it is: {first_error(said)}")
+        linked(ROOT / "crates" / c / "out/incremental", room / "kept" / c)
     todo = [(c, batch) for c in crates for batch in batches([m for m in fixed + drawn if m.crate == c])]
     draw.shuffle(todo)
     todo.sort(key=lambda one: all(m.operator != "edit" for m in one[1]))
@@ -370,14 +388,15 @@ def main():
             if len(done) // 200 != (len(done) - len(batch)) // 200:
                 print(f"{len(done)} of {len(fixed) + len(drawn)}, {time.time() - began:.0f} s", flush=True)
 
-    workers = [threading.Thread(target=work, args=(Desk(prover, k), todo, lock, told)) for k in range(given.jobs)]
+    workers = [threading.Thread(target=work, args=(Desk(prover, room, k), todo, lock, told)) for k in range(jobs)]
     for w in workers:
         w.start()
     for w in workers:
         w.join()
-    (ROOM / "all.json").write_text(json.dumps([{"name": m.name(), "operator": m.operator, "label": m.label, "verdict": m.verdict, "said": m.said[:400]} for m in done],
+    TOLD.mkdir(parents=True, exist_ok=True)
+    (TOLD / "all.json").write_text(json.dumps([{"name": m.name(), "operator": m.operator, "label": m.label, "verdict": m.verdict, "said": m.said[:400]} for m in done],
                                               ensure_ascii=False, indent=1), encoding="utf-8")
-    sys.exit(report(done, whole, time.time() - began))
+    return report(done, whole, time.time() - began)
 
 
 def table(done, column, title):

@@ -2,21 +2,23 @@
 """weakened.py [--jobs JOBS] [LABEL ..]: statements that say less than they should, each with its proof adapted, before the crate `uses`.
 
 A file of tests/mutants/weakened has a line `uses: MODULE`, and then `file:`, `old:` and `new:` for each place that is changed, of a statement and of its proof
-(`\\n` stands for a line feed; every place where OLD stands is changed). Each is tried in a copy of the tree: the crate `claims` has to be proved with it, since
+(`\\n` stands for a line feed; every place where OLD stands is changed). Each is tried in a copy of the tree, outside of it: `claims` has to be proved with it, since
 a weaker statement is true, and the crate `uses` has to be refused, in that module of its proofs. It prints a line for each, with the first error, and ends
 with status 1 if one is not as it has to be. Without labels it tries all. `--list` asks only whether each still fits the tree.
 """
 import argparse
+import os
 import re
 import shutil
 import subprocess
 import sys
+import tempfile
 from concurrent.futures import ThreadPoolExecutor
+from pathlib import Path
 
-from mutants import HERE, ROOT, Prover, first_error
+from mutants import HERE, ROOT, Kit, first_error
 
 WEAKENED = HERE / "weakened"
-ROOM = ROOT / "target/weakened"
 STATED, USED = "claims", "uses"
 
 
@@ -50,20 +52,25 @@ class Weakening:
 
 def needed():
     """The crates that `uses` rests on, itself included, as lines of crates.txt; and their names."""
-    every = Prover().uses
-    found, open_ = set(), [USED]
-    while open_:
-        name = open_.pop()
-        if name not in found:
-            found.add(name)
-            open_ += every[name]
-    return [f"{name}: {' '.join(every[name])}" for name in every if name in found], found
+    kit = Kit(ROOT)
+    found = [*kit.below(USED), USED]
+    return [f"{name}: {' '.join(kit.uses[name])}" for name in kit.uses if name in found], found
 
 
 def rt(copy, crate):
     """Whether rt proves it, and else the first error."""
-    run = subprocess.run(["rt", "check", crate], cwd=copy, capture_output=True, text=True, check=False)
+    run = subprocess.run(["rt", "check"], cwd=copy / "crates" / crate, stdin=subprocess.DEVNULL, capture_output=True, text=True, check=False)
     return run.returncode == 0, " ".join(first_error(run.stdout + run.stderr).split())
+
+
+def put(one, other):
+    """A copy of a file. What rt keeps of proofs is linked: a check replaces such a file, and changes none."""
+    try:
+        if one.endswith(".oantt"):
+            return os.link(one, other)
+    except OSError:
+        pass
+    return shutil.copy2(one, other)
 
 
 def keep(copy, module):
@@ -74,7 +81,7 @@ def keep(copy, module):
         name = open_.pop()
         if name not in kept:
             kept.add(name)
-            open_ += re.findall(r"^use Rattle·uses·proofs\.proofs\.(\w+)\.", (proofs / f"{name}.antt").read_text(encoding="utf-8"), re.M)
+            open_ += re.findall(r"^use Rattle\.uses\.proofs\.(\w+)\b", (proofs / f"{name}.antt").read_text(encoding="utf-8"), re.M)
     listed = (proofs / "Lib.antt").read_text(encoding="utf-8").splitlines()
     (proofs / "Lib.antt").write_text("\n".join(x for x in listed if not x.startswith("pub mod ") or x.split()[-1] in kept) + "\n", encoding="utf-8")
     for file in proofs.glob("*.antt"):
@@ -83,19 +90,17 @@ def keep(copy, module):
 
 
 def attempt(weakening):
-    copy = ROOM / weakening.label
+    with tempfile.TemporaryDirectory() as room:
+        return attempt_in(Path(room), weakening)
+
+
+def attempt_in(copy, weakening):
     lines, crates = needed()
-    shutil.rmtree(copy, ignore_errors=True)
-    copy.mkdir(parents=True)
     (copy / "crates.txt").write_text("\n".join(lines) + "\n", encoding="utf-8")
+    # With what rt keeps of these crates in out/: those below the change are not proved again.
     for name in crates:
-        shutil.copytree(ROOT / "crates" / name, copy / "crates" / name, ignore=shutil.ignore_patterns("must-fail"))
+        shutil.copytree(ROOT / "crates" / name, copy / "crates" / name, ignore=shutil.ignore_patterns("must-fail"), copy_function=put)
     keep(copy, weakening.module)
-    # What rt keeps of these crates: those below the change are not proved again.
-    for part in ("log", "rlib", "stamp"):
-        kept = ROOT / "target" / part
-        shutil.copytree(kept, copy / "target" / part, symlinks=True,
-                        ignore=lambda folder, names, top=str(kept): [n for n in names if folder == top and n.split(".")[0] not in crates])
     texts, missing = weakening.apply(copy)
     if missing:
         return False, missing
@@ -107,10 +112,9 @@ def attempt(weakening):
     accepted, error = rt(copy, USED)
     if accepted:
         return False, "NOT NOTICED: every use of it is proved"
-    place = re.search(r"crates/uses/proofs/(\w+)\.antt:", error)
+    place = re.search(r"(?:^|[\s/])proofs/(\w+)\.antt:", error)
     if not place or place.group(1) != weakening.module:
         return False, f"refused elsewhere than in {weakening.module}: {error}"
-    shutil.rmtree(copy)
     return True, f"refused in {weakening.module}: {error.split(' error: ', 1)[1]}"
 
 

@@ -1,10 +1,10 @@
-"""README.md's blocks of indented lines, each tried: blocks.py README SIMULATOR. A block is a list of commands, an input or an output. Commands are run as they
-stand, but for four: `tests/run` is what runs this; the long comparison, the fuzzer and the benchmark are run in a short form. An output has to be what the
-command before it writes. The blocks and their order are those of the list below: a block that it does not have, or one that is gone, is an error. The rows of
-the table of mistakes are tried as well, beside the second simulator, and then copies of the page with one wrong row each (mistakes.py).
+"""README.md's blocks of indented lines, each tried: blocks.py README SIMULATOR TREE. A block is a list of commands, an input or an output. Commands are run as
+they stand, but for five: `tests/run` is what runs this, and has just run `rt ci` of all crates; the long comparison, the fuzzer and the benchmark are run in a
+short form. An output has to be what the command before it writes. The blocks and their order are those of the list below: a block that it does not have, or one
+that is gone, is an error. The rows of the table of mistakes are tried as well, beside the second simulator, and then copies of the page with one wrong row each
+(mistakes.py).
 
-rt and the firmware example are run in a tree of links, whose target/ begins with the libraries and programs that rt has proved: other tests may use target/
-meanwhile."""
+The commands are run in TREE, a folder outside of this tree, of links to what they name: what they write of their own, they write there."""
 import os
 import re
 import subprocess
@@ -17,7 +17,8 @@ sys.path.insert(0, str(Path(__file__).resolve().parent.parent))
 from level import at_level
 
 ROOM = "target/readme"
-TREE = ROOM + "/tree"
+TREE = sys.argv[3]
+LOG = "target/gate/rt-ci.log"
 
 
 def blocks(page):
@@ -69,7 +70,7 @@ def rerun_logs(log, verdict, van, verdicts, single, simulator):
         Path(f"{TREE}/{name}").write_bytes(text)
         return subprocess.run([*simulator, f"{TREE}/{name}"], stdout=subprocess.PIPE, check=True, text=True).stdout
 
-    call = "target/bin/rerun < LOG"
+    call = "crates/rerun/out/rerun < LOG"
     if put("LOG", log.encode()) != verdict:
         sys.exit("README.md shows another verdict than the second simulator has")
     same(call, verdict, run(call, folder=TREE))
@@ -87,7 +88,7 @@ def rerun_logs(log, verdict, van, verdicts, single, simulator):
     if sorted(got) != sorted(wanted) or len(got) != 100:
         sys.exit(f"of {len(wanted)} logs the command says {len(got)} lines, others than the second simulator has: {sorted(set(got) ^ set(wanted))[:4]}")
     progress, copied, script = commands(single)
-    expect(single, "pv LOG | target/bin/rerun", "head -n -1 LOG | target/bin/rerun", script)
+    expect(single, "pv LOG | crates/rerun/out/rerun", "head -n -1 LOG | crates/rerun/out/rerun", script)
     same(progress, verdict, run(progress, folder=TREE))
     if run(script, folder=TREE) != "":
         sys.exit(f"'{script}' complains of a log that is the same")
@@ -107,14 +108,11 @@ def main():
         sys.exit(f"README.md has {len(given)} blocks of indented lines, and this test knows 18: it has to know each")
     two, cabinet, requests, told, plan, table, figures, rerun, log, verdict, van, verdicts, single, inspect, said, programs, tried, bench = given
 
-    os.makedirs(f"{TREE}/target")
-    for name in ["crates", "crates.txt", "include", "firmware", "target/rlib", "target/stamp", "target/obj", "target/bin"]:
-        if name.startswith("target/"):
-            os.makedirs(name, exist_ok=True)
+    for name in ["crates", "crates.txt", "include", "firmware"]:
         os.symlink(os.path.abspath(name), f"{TREE}/{name}")
 
-    expect(two, "rt staticlib dispatcher", "tests/run")
-    run("rt staticlib dispatcher", folder=TREE)
+    expect(two, "(cd crates/dispatcher_c && rt lib --cpu x86-64)", "tests/run")
+    run("(cd crates/dispatcher_c && rt lib --cpu x86-64)", folder=TREE)
     if not os.access("tests/run", os.X_OK):
         sys.exit("tests/run cannot be run")
 
@@ -124,18 +122,18 @@ def main():
     os.remove(f"{TREE}/cabinet.image")
     same(start, told, run(start + " --tick 0", requests, folder=TREE))
 
-    expect(plan, "rt check plan", "target/bin/plan < TABLE")
-    run("rt check plan", folder=TREE)
+    call = "crates/plan/out/plan < TABLE"
+    expect(plan, "(cd crates/plan && rt run) < TABLE", call)
     open(f"{TREE}/TABLE", "w").write(table)
-    call = "target/bin/plan < TABLE"
-    same(call, figures, run(call, folder=TREE))
+    for command in commands(plan):
+        same(command, figures, run(command, folder=TREE))
     # "of the second task it is 10, also with deadline 7 in place of 8"
     shown = re.search(r"of the second task it is (\d+), also with deadline 7 in place of 8", " ".join(page.split())).group(1)
     open(f"{TREE}/TABLE", "w").write(table.replace("\n8 8 ", "\n8 7 "))
     for second in (figures.splitlines()[-1], run(call, folder=TREE).splitlines()[-1]):
         if second.split()[2] != shown:
             sys.exit(f"plan prints '{second}', and not the response {shown}")
-    trial = mistakes.Trial(TREE, [os.path.abspath("target/bin/plan")], at_level(sys.argv[2], "plan"))
+    trial = mistakes.Trial(TREE, [os.path.abspath("crates/plan/out/plan")], at_level(sys.argv[2], "plan"))
     try:
         rows = mistakes.check(page, table, figures, trial)
     except mistakes.Wrong as wrong:
@@ -144,18 +142,25 @@ def main():
     print(f"{rows} mistakes, as README.md has them: {runs} tables printed by plan and by the second simulator")
     seen = mistakes.faults(page, table, figures, trial)
 
-    expect(rerun, "rt check rerun", "target/bin/rerun < LOG")
-    run("rt check rerun", folder=TREE)
+    first, call = commands(rerun)
+    expect(rerun, "(cd crates/rerun && rt run) < LOG", "crates/rerun/out/rerun < LOG")
+    open(f"{TREE}/LOG", "w").write(log)
+    same(first, verdict, run(first, folder=TREE))
     logs = rerun_logs(log, verdict, van, verdicts, single, at_level(os.path.abspath(sys.argv[2]), "rerun"))
 
-    expect(inspect, "rt check inspect", "target/bin/inspect < IMAGE")
-    run("rt check inspect", folder=TREE)
+    expect(inspect, "(cd crates/inspect && rt run) < IMAGE", "crates/inspect/out/inspect < IMAGE")
     os.symlink("crates/inspect/stdin", f"{TREE}/IMAGE")
-    call = "target/bin/inspect < IMAGE"
-    same(call, said, run(call, folder=TREE))
+    for command in commands(inspect):
+        same(command, said, run(command, folder=TREE))
 
-    expect(programs, "rt check cases soak")
-    run("rt check cases soak", folder=TREE)
+    expect(programs, "rt ci cases soak")
+    wanted = [f"rt: {name} ran, and wrote what its file stdout has\n" for name in ("cases", "soak")]
+    told = Path(LOG).read_text() if Path(LOG).exists() else ""
+    if not all(line in told for line in wanted):
+        told = run("rt ci cases soak")
+    for line in wanted:
+        if line not in told:
+            sys.exit(f"rt ci does not say: {line}")
 
     expect(tried, "tests/compare/run", "tests/fuzz/run")
     run(f"tests/compare/run --calls 20000 --seed 1 --folder {ROOM}/found")

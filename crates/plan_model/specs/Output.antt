@@ -12,7 +12,7 @@ use Rattle.plan_model.specs.Input.{stations_of, tasks_of, input_number}
 abbrev pub heading : List ℕ
 heading = ascii "task base response verdict\n"
 
--- "`on_time` or `late`"
+-- "`on-time` or `late`"
 abbrev pub verdict_word : Verdict → List ℕ
 verdict_word OnTime = ascii "on-time"
 verdict_word Late = ascii "late"
