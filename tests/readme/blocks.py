@@ -108,11 +108,11 @@ def main():
         sys.exit(f"README.md has {len(given)} blocks of indented lines, and this test knows 18: it has to know each")
     two, cabinet, requests, told, plan, table, figures, rerun, log, verdict, van, verdicts, single, inspect, said, programs, tried, bench = given
 
-    for name in ["crates", "crates.txt", "include", "firmware"]:
+    for name in ["crates", "crates.txt", "include", "firmware", "tests"]:
         os.symlink(os.path.abspath(name), f"{TREE}/{name}")
 
-    expect(two, "(cd crates/dispatcher_c && rt lib --cpu x86-64)", "tests/run")
-    run("(cd crates/dispatcher_c && rt lib --cpu x86-64)", folder=TREE)
+    expect(two, "firmware/library", "tests/run")
+    run("firmware/library", folder=TREE)
     if not os.access("tests/run", os.X_OK):
         sys.exit("tests/run cannot be run")
 
