@@ -60,7 +60,8 @@ made_by_rt() {
     exec 8> target/rt.lock
     flock 8
     if ! newer_than_sources "$1"; then
-        if ! newer_than_sources "$made"; then
+        # What was built without the flags may be there, too.
+        if [ "${#flags[@]}" -gt 0 ] || ! newer_than_sources "$made"; then
             need rt "it proves and builds $made"
             echo "(cd $folder && rt $2 ${flags[*]})"
             (cd "$folder" && rt "$2" "${flags[@]}") < /dev/null > "$log" 2>&1 || status=$?
