@@ -130,7 +130,7 @@ Whole block = length block ≡ block_size
 abbrev OfBlock : History → List ℕ → Result → Type 0
 OfBlock h block r = Judged (Whole block) h (block_of block) some_reply r
 
--- ---- N = 2: X with due_in 9, and one advance
+-- ---- N = 2: X with due-in 9, and one advance
 pub one_allowed : AllAllowed (opened 2) one_calls
 unfolding one_calls
 one_allowed = (tt, (tt, tt))
@@ -144,7 +144,7 @@ one_image : Figure 1 × Figure 1
 unfolding read_row opened one_calls one X Y Z started after_call outcome after_all
 one_image = (ap (λ (image : List ℕ). word image clock_at) one_in_step.image_is, ap (λ s. s.clock) one_in_step.read_back)
 
--- Y with due_in 7: X has the bound 7 and is due at 9, Y the bound 8, on which it is due.
+-- Y with due-in 7: X has the bound 7 and is due at 9, Y the bound 8, on which it is due.
 one_taken : (r : Result) → OfBlock one.history (Y 7 5) r → r.number ≡ 0 → (Figure 16 × Figure 28 × (1 ≤ 1) × (1 ≤ 6000) × (1 ≤ 2) × (2 ≤ 6000) × Figure 0 × Figure 0 × (7 ≤ 60000) × (8 ≤ 4000000000) × (1 < 32)) × ((7 ≤ 9) × (8 ≤ 8)) × (word r.reply reply_tick_at ≡ 8) × (part r.reply reply_margin_at 4 ≡ 0 ∷ 0 ∷ 0 ∷ 0 ∷ []) × (0 < 2147483648)
 unfolding read_row opened one_calls one X Y Z started after_call outcome after_all
 one_taken r j = taken (Whole (Y 7 5)) one.history (block_of (Y 7 5)) refl r j (omega arith)
@@ -153,7 +153,7 @@ one_taken_back : (r : Result) → OfBlock one.history (Y 7 5) r → r.number ≡
 unfolding read_row opened one_calls one X Y Z started after_call outcome after_all
 one_taken_back r j = taken_back (Whole (Y 7 5)) one.history (block_of (Y 7 5)) refl r j (considered (Whole (Y 7 5)) one.history (block_of (Y 7 5)) refl (leb-true _ _ (refl {a = true})) (refl {a = true}) (refl {a = true}) (refl {a = true}) (leb-true _ _ (refl {a = true})) (leb-true _ _ (refl {a = true})) (leb-true _ _ (refl {a = true}))) (leb-true _ _ (refl {a = true})) (leb-true _ _ (refl {a = true}))
 
--- Y with due_in 6 is due at 7.
+-- Y with due-in 6 is due at 7.
 one_late : (r : Result) → OfBlock one.history (Y 6 5) r → r.number ≡ 11 → (Figure 16 × Figure 28 × (1 ≤ 1) × (1 ≤ 6000) × (1 ≤ 2) × (2 ≤ 6000) × Figure 0 × Figure 0 × (6 ≤ 60000) × (7 ≤ 4000000000) × (1 < 32)) × (7 < 8) × (part r.reply reply_margin_at 4 ≡ 255 ∷ 255 ∷ 255 ∷ 255 ∷ []) × (0 < 2147483648)
 unfolding read_row opened one_calls one X Y Z started after_call outcome after_all
 one_late r j = late (Whole (Y 6 5)) one.history (block_of (Y 6 5)) refl r j (omega arith)
@@ -192,7 +192,7 @@ one_never =
     let s = one_in_step in
     (s.never_2 (whole (offering (Y 7 5))), s.never_3 (whole advancing), s.never_4 (whole (opening 9)), s.never_9 (whole (offering (Y 6 5))), λ e. s.thirteen_alone some_reply e (entry one 0) (Memᴰ.head refl) refl)
 
--- ---- N = 8: an order of cost 1 everywhere with due_in 12, and one advance
+-- ---- N = 8: an order of cost 1 everywhere with due-in 12, and one advance
 pub long_allowed : AllAllowed (opened 8) long_calls
 unfolding long_calls
 long_allowed = (tt, (tt, tt))
@@ -206,7 +206,7 @@ long_image : Figure 1 × Figure 1
 unfolding read_row opened long_calls long order P Q started after_call outcome after_all
 long_image = (ap (λ (image : List ℕ). word image clock_at) long_in_step.image_is, ap (λ s. s.clock) long_in_step.read_back)
 
--- An order of cost 1 everywhere with due_in 10: the first has the bound 9 and is due at 12, the second 10 and 11.
+-- An order of cost 1 everywhere with due-in 10: the first has the bound 9 and is due at 12, the second 10 and 11.
 long_taken : (r : Result) → OfBlock long.history (P 10) r → r.number ≡ 0 → (Figure 16 × Figure 28 × (1 ≤ 1) × (1 ≤ 6000) × (1 ≤ 1) × (1 ≤ 6000) × Figure 0 × Figure 0 × (10 ≤ 60000) × (11 ≤ 4000000000) × (1 < 32)) × ((9 ≤ 12) × (10 ≤ 11)) × (word r.reply reply_tick_at ≡ 10) × (part r.reply reply_margin_at 4 ≡ 1 ∷ 0 ∷ 0 ∷ 0 ∷ []) × (1 < 2147483648)
 unfolding read_row opened long_calls long order P Q started after_call outcome after_all
 long_taken r j = taken (Whole (P 10)) long.history (block_of (P 10)) refl r j (omega arith)
@@ -215,7 +215,7 @@ long_taken_back : (r : Result) → OfBlock long.history (P 10) r → r.number �
 unfolding read_row opened long_calls long order P Q started after_call outcome after_all
 long_taken_back r j = taken_back (Whole (P 10)) long.history (block_of (P 10)) refl r j (considered (Whole (P 10)) long.history (block_of (P 10)) refl (leb-true _ _ (refl {a = true})) (refl {a = true}) (refl {a = true}) (refl {a = true}) (leb-true _ _ (refl {a = true})) (leb-true _ _ (refl {a = true})) (leb-true _ _ (refl {a = true}))) (leb-true _ _ (refl {a = true})) (leb-true _ _ (refl {a = true}))
 
--- With due_in 8 it is due at 9.
+-- With due-in 8 it is due at 9.
 long_late : (r : Result) → OfBlock long.history (P 8) r → r.number ≡ 11 → (Figure 16 × Figure 28 × (1 ≤ 1) × (1 ≤ 6000) × (1 ≤ 1) × (1 ≤ 6000) × Figure 0 × Figure 0 × (8 ≤ 60000) × (9 ≤ 4000000000) × (1 < 32)) × (9 < 10) × (part r.reply reply_margin_at 4 ≡ 255 ∷ 255 ∷ 255 ∷ 255 ∷ []) × (0 < 2147483648)
 unfolding read_row opened long_calls long order P Q started after_call outcome after_all
 long_late r j = late (Whole (P 8)) long.history (block_of (P 8)) refl r j (omega arith)

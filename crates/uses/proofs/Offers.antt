@@ -129,7 +129,7 @@ module _ (image block : List ℕ) where
     delaying_back : Considered image block some_reply → InTime s.n arriving → Late s.n other → number ≡ 12
     delaying_back c p q = x.delaying.if (c, p, get_or s.orders 0 arriving, it_in, q)
 
--- ---- N = 2: X with due_in 9, and one advance
+-- ---- N = 2: X with due-in 9, and one advance
 pub one_bytes : Below byte_limit one.image
 unfolding read_row opened one_calls one X Y Z started after_call outcome after_all
 one_bytes = all_bytes one.image (refl {a = true})
@@ -141,7 +141,7 @@ one_usable = record { reply_whole = refl; image_whole = refl {a = 2128}; image_m
 at_one : (block : List ℕ) → ExactAt one.image block some_reply (decode one.image) (block_of block)
 at_one block = claims.exact one.image block some_reply
 
--- Y with due_in 7: it has the bound 8, on which it is due; X has the bound 7 and is due at 9.
+-- Y with due-in 7: it has the bound 8, on which it is due; X has the bound 7 and is due at 9.
 one_taken : ((Figure 16 × Figure 2128 × Yes × Yes) × Figure 28 × ((1 ≤ 1) × (1 ≤ 6000) × (1 ≤ 2) × (2 ≤ 6000) × Figure 0 × Figure 0 × (7 ≤ 60000) × (8 ≤ 4000000000) × (1 ≤ 2) × (1 < 32))) × ((8 ≤ 8) × (7 ≤ 9)) × Bytes (8 ∷ 0 ∷ 0 ∷ 0 ∷ []) × Bytes (0 ∷ 0 ∷ 0 ∷ 0 ∷ []) × (0 < 2147483648) × No
 unfolding read_row opened one_calls one X Y Z started after_call outcome after_all
 one_taken = taken one.image (Y 7 5) one_bytes refl (at_one (Y 7 5)) (leb-true _ _ (refl {a = true})) refl
@@ -150,7 +150,7 @@ one_taken_back : Figure 0
 unfolding read_row opened one_calls one X Y Z started after_call outcome after_all
 one_taken_back = taken_back one.image (Y 7 5) one_bytes refl (at_one (Y 7 5)) (considered one.image (Y 7 5) one_usable refl (leb-true _ _ (refl {a = true})) (refl {a = true}) (refl {a = true}) (refl {a = true}) (refl {a = true}) (refl {a = true})) (leb-true _ _ (refl {a = true})) (leb-true _ _ (refl {a = true}))
 
--- Y with due_in 6 is due at 7.
+-- Y with due-in 6 is due at 7.
 one_late : ((Figure 16 × Figure 2128 × Yes × Yes) × Figure 28 × ((1 ≤ 1) × (1 ≤ 6000) × (1 ≤ 2) × (2 ≤ 6000) × Figure 0 × Figure 0 × (6 ≤ 60000) × (7 ≤ 4000000000) × (1 ≤ 2) × (1 < 32))) × (7 < 8) × Bytes (255 ∷ 255 ∷ 255 ∷ 255 ∷ []) × (0 < 2147483648) × Yes
 unfolding read_row opened one_calls one X Y Z started after_call outcome after_all
 one_late = late one.image (Y 6 5) one_bytes refl (at_one (Y 6 5)) (leb-true _ _ (refl {a = true})) refl
@@ -181,7 +181,7 @@ quote_unheard : Bytes (replicate 15 238)
 unfolding read_row opened one_calls one X Y Z started after_call outcome after_all
 quote_unheard = (claims.quote_gives_offer one.image (Y 7 5) (lent 15)).unheard refl
 
--- ---- due_in 0 is 9,000 written out: of an offer that is done, and of a quote that is late
+-- ---- due-in 0 is 9,000 written out: of an offer that is done, and of a quote that is late
 zero : StandsFor one.image some_reply
 zero = claims.default_due_in one.image some_reply
 

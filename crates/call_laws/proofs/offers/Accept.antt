@@ -41,7 +41,7 @@ maxima_length n [] each = omega arith
 maxima_length n (o ∷ l) each =
     omega (arith, length-larger o.costs (live_maxima l), each o (Memᴰ.head refl), maxima_length n l (λ p m. each p (Memᴰ.tail m)))
 
--- Both a due_in that is given and the default are in range.
+-- Both a due-in that is given and the default are in range.
 pub due_bounds : (clock : ℕ) (b : Block) → b.due_in ≤ max_due_in → (clock + 1 ≤ due_of clock b) × (due_of clock b ≤ clock + max_due_in)
 unfolding due_of
 due_bounds clock b h = elim (eqb_cases b.due_in 0) [ inl t ↦ rw t.0 (omega arith) | inr t ↦ rw t.0 (omega (arith, t.1)) ]

@@ -1,6 +1,7 @@
 -- The margins, read from their bits, and their signs.
 use mathlib.Core.Path.{◌≡◌, sym, ap, ◌∙◌}
-use mathlib.Core.Bool.{Bool}
+use borrow.Author.Rules.{rules}
+use mathlib.Core.Bool.{Bool, false}
 use mathlib.Core.List.{[], ◌∷◌}
 use lib.IntN.{ℤ, pos}
 use lib.Signed.{lt_z}
@@ -35,5 +36,5 @@ unfolding decision_of
 returns c =
     let own_is : to_z w32 (of_z w32 c.margin-own.result) ≡ delay.margin c.args.l.n c.args.a = to_z-of_z {w = w32} (record { sfits = c.margin-own.type_inv }) ∙ c.margin-own.ensures in
     let least_is : to_z w32 (of_z w32 c.smaller-least.result) ≡ smallest (delay.margin c.args.l.n c.args.a) (c.args.others ∷ []) = to_z-of_z {w = w32} (record { sfits = c.smaller-least.type_inv }) ∙ c.smaller-least.ensures ∙ rw (own_is, to_z-of_z {w = w32} c.ranges.others) in
-    rw (sign (own_is) c.if-own-lt0.false, sign (least_is) c.if-least-lt0.false, c.bound_tick.ensures)
+    rw (sign (own_is) c.if-own-lt0.false, sign {t = false} (least_is) (search rules), c.bound_tick.ensures)
     (ap (λ (m : ℤ). Accepted (record { tick = delay.bound_tick c.args.l.n c.args.a; margin = m })) (least_is))

@@ -15,7 +15,7 @@ put_said-requires c =
     let k = c.number-number in
     let is = k.ensures ∙ c.image_answer.ensures in
     let p = c.put_number-end.ensures in
-    let w = zero_whole_sound image k.result is c.if-number-eq0.true in
+    let w = zero_whole_sound image k.result is (omega arith) in
     (w.0, w.1, omega (arith, put_length p, number_end p (omega arith)))
 
 pub returns-then-number-eq0 : goal.returns-then-number-eq0
