@@ -1,7 +1,8 @@
 #!/usr/bin/env python3
 """Spells the repository's own definitions, fields and lemmas as today's Rattle spells names: words in snake case, types in camel case.
 
-usage: python3 tools/respell.py       at the top of a checkout, once, after the kit's port.py
+usage: python3 tools/respell.py          at the top of a checkout, once, after the kit's port.py
+       python3 tools/respell.py --list   writes nothing, and prints each crate's names, old and new
 
 What turns: in crates/*/specs and crates/*/proofs the code and the code spans of comments; in crates/*/src the clauses and `ghost use` items, and the code
 spans of comments; in *.edit files the lines `old:` and `new:`; in the pages of docs/ the code spans of one name, in
@@ -147,6 +148,15 @@ class Names:
         out.append(WORD.sub(turn, text[at:]))
         return "".join(out)
 
+    def by_crate(self):
+        """A crate, a name that it declares and the new spelling, for each that has another."""
+        for places, ending in ((self.declared, "_lem"), (self.fields, "")):
+            for old, paths in places.items():
+                new = self.spelled(old) + ending if old in self.clashing else self.table.get(old, old)
+                for path in paths if new != old else ():
+                    if OTHERS_ONLY.get(old, path) == path:
+                        yield path.split("/")[1], old, new
+
     def together(self, path):
         """Names of one file that fall together, declared in it or brought in."""
         code = QUIET.sub(" ", read(path))
@@ -195,6 +205,10 @@ def main():
     if not os.path.isdir("crates"):
         sys.exit("run it at the top of a checkout")
     names = Names()
+    if sys.argv[1:] == ["--list"]:
+        for crate, old, new in sorted(names.by_crate()):
+            print(f"{crate}: {old} is {new}")
+        return
     turned = {}
     for path in files(".antt", "crates"):
         for new, olds in sorted(names.together(path).items()):
