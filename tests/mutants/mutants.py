@@ -115,17 +115,19 @@ class Prover:
             return run.communicate()[0], None
 
 
-def linked(folder, to):
-    """A copy of what was kept. What was proved is linked: a check replaces such a file, and changes none."""
-    def put(one, other):
-        try:
-            if one.endswith(".oantt"):
-                return os.link(one, other)
-        except OSError:
-            pass
-        return shutil.copy2(one, other)
+def copied(one, other):
+    """A copy of a file. What rt keeps of proofs is linked: a check replaces such a file, and changes none."""
+    try:
+        if one.endswith(".oantt"):
+            return os.link(one, other)
+    except OSError:
+        pass
+    return shutil.copy2(one, other)
 
-    shutil.copytree(folder, to, copy_function=put)
+
+def linked(folder, to):
+    """A copy of what was kept."""
+    shutil.copytree(folder, to, copy_function=copied)
 
 
 class Desk:

@@ -7,7 +7,6 @@ a weaker statement is true, and the crate `uses` has to be refused, in that modu
 with status 1 if one is not as it has to be. Without labels it tries all. `--list` asks only whether each still fits the tree.
 """
 import argparse
-import os
 import re
 import shutil
 import subprocess
@@ -16,7 +15,7 @@ import tempfile
 from concurrent.futures import ThreadPoolExecutor
 from pathlib import Path
 
-from mutants import HERE, ROOT, Kit, first_error
+from mutants import HERE, ROOT, Kit, copied, first_error
 
 WEAKENED = HERE / "weakened"
 STATED, USED = "claims", "uses"
@@ -63,16 +62,6 @@ def rt(copy, crate):
     return run.returncode == 0, " ".join(first_error(run.stdout + run.stderr).split())
 
 
-def put(one, other):
-    """A copy of a file. What rt keeps of proofs is linked: a check replaces such a file, and changes none."""
-    try:
-        if one.endswith(".oantt"):
-            return os.link(one, other)
-    except OSError:
-        pass
-    return shutil.copy2(one, other)
-
-
 def keep(copy, module):
     """Of the proofs of `uses` the module and those that it uses: the others are not asked, and take time."""
     proofs = copy / "crates" / USED / "proofs"
@@ -99,7 +88,7 @@ def attempt_in(copy, weakening):
     (copy / "crates.txt").write_text("\n".join(lines) + "\n", encoding="utf-8")
     # With what rt keeps of these crates in out/: those below the change are not proved again.
     for name in crates:
-        shutil.copytree(ROOT / "crates" / name, copy / "crates" / name, ignore=shutil.ignore_patterns("must-fail"), copy_function=put)
+        shutil.copytree(ROOT / "crates" / name, copy / "crates" / name, ignore=shutil.ignore_patterns("must-fail"), copy_function=copied)
     keep(copy, weakening.module)
     texts, missing = weakening.apply(copy)
     if missing:

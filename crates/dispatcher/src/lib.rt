@@ -1,7 +1,7 @@
-// The cabinet's C interface (document 01: "The cabinet's C firmware calls open, quote, offer and advance"). Each call decides its
-// number first, and only then writes: the reply, and the image if it is done. Open's image, and header and entries after a tick,
-// are written from here; an acceptance by `admission::acceptance` and the records after a tick by `tick::leaving`, which know the
-// bytes of the lent image, too.
+// The cabinet's calls (document 01: "The cabinet's C firmware calls open, quote, offer and advance"); C has them by `dispatcher_c`. Each
+// call decides its number first, and only then writes: the reply, and the image if it is done. Open's image, and header and entries
+// after a tick, are written from here; an acceptance by `admission::acceptance` and the records after a tick by `tick::leaving`, which
+// know the bytes of the lent image, too.
 #![tactic(auto)]
 
 pub mod replies; // the bytes of a reply, and what a decline leaves of it

@@ -1,17 +1,17 @@
 -- The records, the arrival and the header are one image: that of the accepted state.
+use borrow.Author.Rules.{rules}
 use mathlib.Core.Path.{◌≡◌, refl, ◌∙◌}
 use mathlib.Core.Bool.{cond}
 use mathlib.Core.List.{List}
-use Prim.Native.Nat.{ℕ, ◌+◌, ◌<◌}
+use Prim.Native.Nat.{ℕ, ◌+◌}
 use native.Mathlib.Omega.{arith}
 use lib.Dec.{eqb}
 use Rattle.model.specs.declared.Block.{Block}
 use Rattle.model.specs.declared.Order.{Order}
-use Rattle.model.specs.Limits.{max_live, last_ticket}
-use Rattle.model.specs.Image.{live_count, decode}
+use Rattle.model.specs.Limits.{last_ticket}
+use Rattle.model.specs.Image.{decode}
 use Rattle.model.specs.Admission.{arrival, accept}
 use Rattle.lists.proofs.Stores.{stored_length}
-use Rattle.image_laws.specs.InRange.{byte_limit, Below}
 use Rattle.image_laws.proofs.Read.{decode_n}
 use Rattle.admission.specs.Acceptance.{Acceptable}
 use Rattle.admission.proofs.acceptance.AcceptLaws.{room, sums, accepted}
@@ -24,39 +24,33 @@ next_is image ok e = e ∙ rw ok.arrives
 
 pub put_joined-requires : goal.put_joined-requires
 put_joined-requires c =
-    let bytes_of : Below byte_limit c.args.image.now = λ i. (c.slice_known-1.given i).fits in
-    let spare : live_count c.args.image.now < max_live = room c.requires (bytes_of) in
+    let spare = room c.requires (λ i. search rules) in
     let ok = c.requires in
-    record { image_len = (ok.whole, omega (arith, c.wide.ensures, spare)); by_index = λ i h. sums ok (bytes_of) i (omega (arith, h, c.wide.ensures)) }
+    record { image_len = (ok.whole, omega (arith, c.wide.ensures, spare)); by_index = λ i h. sums ok (λ i. search rules) i (omega (arith, h, c.wide.ensures)) }
 
 pub overflow_mul-wide : goal.overflow_mul-wide
 overflow_mul-wide c =
-    let bytes_of : Below byte_limit c.args.image.now = λ i. (c.slice_known-1.given i).fits in
-    let spare : live_count c.args.image.now < max_live = room c.requires (bytes_of) in
+    let spare = room c.requires (λ i. search rules) in
     omega (arith, c.wide-2.ensures, spare)
 
 pub overflow_add-wide : goal.overflow_add-wide
 overflow_add-wide c =
-    let bytes_of : Below byte_limit c.args.image.now = λ i. (c.slice_known-1.given i).fits in
-    let spare : live_count c.args.image.now < max_live = room c.requires (bytes_of) in
+    let spare = room c.requires (λ i. search rules) in
     omega (arith, c.wide-2.ensures, spare)
 
 pub put_order-requires : goal.put_order-requires
 put_order-requires c =
-    let bytes_of : Below byte_limit c.args.image.now = λ i. (c.slice_known-1.given i).fits in
-    let spare : live_count c.args.image.now < max_live = room c.requires (bytes_of) in
+    let spare = room c.requires (λ i. search rules) in
     omega (arith, c.wide-2.ensures, spare, c.requires.whole, stored_length c.put_joined.ensures.stored)
 
 pub overflow_add-live : goal.overflow_add-live
 overflow_add-live c =
-    let bytes_of : Below byte_limit c.args.image.now = λ i. (c.slice_known-1.given i).fits in
-    let spare : live_count c.args.image.now < max_live = room c.requires (bytes_of) in
+    let spare = room c.requires (λ i. search rules) in
     omega (arith, spare)
 
 pub returns : goal.returns
 returns c =
-    let bytes_of : Below byte_limit c.args.image.now = λ i. (c.slice_known-1.given i).fits in
     let ok = c.requires in
     let rows = rw c.wide.ensures at c.put_joined.ensures in
     let laid = rw c.wide-2.ensures at c.put_order.ensures.0 in
-    accepted ok (bytes_of) refl rows.stored rows.live_len laid c.put_order.ensures.1 c.put_header.ensures (decode_n _) (next_is _ ok c.ticket_after.ensures)
+    accepted ok (λ i. search rules) refl rows.stored rows.live_len laid c.put_order.ensures.1 c.put_header.ensures (decode_n _) (next_is _ ok c.ticket_after.ensures)

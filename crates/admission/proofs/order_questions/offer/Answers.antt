@@ -1,19 +1,23 @@
 -- Question by question: what is left of each test is the test of the next. What is read of the image are its state's figures.
 use mathlib.Core.Path.{◌≡◌, sym, ap, subst, ◌∙◌}
-use mathlib.Core.Bool.{Bool, true, false}
-use Prim.Native.Nat.{ℕ, ◌≤◌}
+use mathlib.Core.Bool.{Bool, true, ◌&&◌}
+use mathlib.Core.List.{List}
+use Prim.Native.Nat.{ℕ, ◌≤◌, ◌<◌}
 use native.Mathlib.Omega.{arith}
 use lib.ListN.{length}
 use lib.Dec.{leb, ltb}
 use borrow.Author.Tests.{le-leb, lt-leb, lt-ltb, le-ltb}
 use borrow.Author.Rules.{rules}
+use Rattle.model.specs.declared.Block.{Block}
 use Rattle.model.specs.Limits.{max_live, max_due_in, last_tick}
+use Rattle.model.specs.Bytes.{byte, word}
 use Rattle.model.specs.State.{State}
-use Rattle.model.specs.Image.{decode}
+use Rattle.model.specs.Layout.{station_count_at, clock_at, next_at}
+use Rattle.model.specs.Image.{live_count, decode}
+use Rattle.model.specs.Soundness.{costs_in_range, zero_beyond}
 use Rattle.model.specs.Admission.{due_of}
-use Rattle.image.specs.Pipeline.{listed}
 use Rattle.image_laws.specs.InRange.{byte_limit, Below}
-use Rattle.image_laws.proofs.Read.{decode_clock, decode-next, decode-live}
+use Rattle.image_laws.proofs.Read.{decode_n, decode_clock, decode-next, decode-live}
 use Rattle.image_laws.proofs.Sound.{sound_gives}
 use Rattle.call_laws.proofs.offers.Questions.{fitting}
 use Rattle.call_laws.specs.Considered.{Fitting}
@@ -22,92 +26,92 @@ use Rattle.image.proofs.Decoded.{readable, listed_is, sound_pipeline}
 use Rattle.admission.proofs.order_questions.OfferLaws.{BlockIs, costs_no, due_in_no, due_tick_no, tickets_no, room_no, all_yes}
 use Rattle.admission.proofs.order_questions.offer.Goals as goal
 
+-- Questions 6 to 10 of an order by what the code has read of the image: 6 either way, and the others where they pass.
+module _ (image : List ℕ) (b : Block) where
+  block_is : {n : ℕ} {fits t : Bool} → n ≡ byte image station_count_at → fits ≡ (costs_in_range n b.costs && zero_beyond n b.costs && zero_beyond n b.ranks) → fits ≡ t → BlockIs (decode image) b t
+  block_is n_is fits_is e = rw (← decode_n image, ← n_is) (sym fits_is ∙ e)
+
+  due_in_yes : b.due_in ≤ max_due_in → leb b.due_in max_due_in ≡ true
+  due_in_yes = le-leb b.due_in max_due_in
+
+  due_tick_is : {clock d : ℕ} → clock ≡ word image clock_at → d ≡ due_of clock b → d ≡ due_of (decode image).clock b
+  due_tick_is clock_is d_is = d_is ∙ ap (λ (k : ℕ). due_of k b) (clock_is ∙ decode_clock image)
+
+  due_tick_yes : {clock d : ℕ} → clock ≡ word image clock_at → d ≡ due_of clock b → d ≤ last_tick → leb (due_of (decode image).clock b) last_tick ≡ true
+  due_tick_yes clock_is d_is h = le-leb (due_of (decode image).clock b) last_tick (omega (arith, due_tick_is clock_is d_is))
+
+  ticket_yes : {next : ℕ} → next ≡ word image next_at → 1 ≤ next → leb 1 (decode image).next ≡ true
+  ticket_yes next_is h = le-leb 1 (decode image).next (omega (arith, next_is ∙ decode-next image))
+
+  room_yes : live_count image < max_live → ltb (length (decode image).orders) max_live ≡ true
+  room_yes h = lt-ltb (length (decode image).orders) max_live (omega (arith, decode-live image))
+
 pub returns-then-not-fits : goal.returns-then-not-fits
-unfolding decode
 returns-then-not-fits c =
-    let block_is : (t : Bool) → c.fits.result ≡ t → BlockIs (decode c.args.image.now) c.args.b t = λ t e. rw (← c.wide32.ensures) (sym c.fits.ensures ∙ e) in
-    subst (Offers _ _ _) (sym c.declined.ensures) (costs_no _ _ (block_is false c.if-not-fits.true))
+    subst (Offers _ _ _) (sym c.declined.ensures) (costs_no _ _ (block_is c.args.image.now c.args.b c.wide32.ensures c.fits.ensures c.if-not-fits.true))
 
 pub returns-then-wide64-gt-MAX_DUE_IN : goal.returns-then-wide64-gt-MAX_DUE_IN
-unfolding decode
 returns-then-wide64-gt-MAX_DUE_IN c =
-    let block_is : (t : Bool) → c.fits.result ≡ t → BlockIs (decode c.args.image.now) c.args.b t = λ t e. rw (← c.wide32.ensures) (sym c.fits.ensures ∙ e) in
-    let block-passes : BlockIs (decode c.args.image.now) c.args.b true = block_is true c.if-not-fits.false in
-    subst (Offers _ _ _) (sym c.declined-then-wide64-gt-MAX_DUE_IN.ensures) (due_in_no _ _ (block-passes) (lt-leb c.args.b.due_in max_due_in (omega (arith, c.wide64.ensures, c.if-wide64-gt-MAX_DUE_IN.true))))
+    let block = block_is c.args.image.now c.args.b c.wide32.ensures c.fits.ensures c.if-not-fits.false in
+    subst (Offers _ _ _) (sym c.declined-then-wide64-gt-MAX_DUE_IN.ensures) (due_in_no _ _ block (lt-leb c.args.b.due_in max_due_in (omega arith)))
 
 pub returns-then-wide64-due_tick : goal.returns-then-wide64-due_tick
-unfolding decode
 returns-then-wide64-due_tick c =
-    let block_is : (t : Bool) → c.fits.result ≡ t → BlockIs (decode c.args.image.now) c.args.b t = λ t e. rw (← c.wide32.ensures) (sym c.fits.ensures ∙ e) in
-    let block-passes : BlockIs (decode c.args.image.now) c.args.b true = block_is true c.if-not-fits.false in
-    let due-in-passes : leb c.args.b.due_in max_due_in ≡ true = le-leb c.args.b.due_in max_due_in (omega (arith, c.wide64.ensures, c.if-wide64-gt-MAX_DUE_IN.false)) in
-    let due_is : due_of c.u32_at-clock.result c.args.b ≡ due_of (decode c.args.image.now).clock c.args.b = ap (λ (k : ℕ). due_of k c.args.b) (c.u32_at-clock.ensures ∙ decode_clock c.args.image.now) in
-    let top = (c) in
+    let image = c.args.image.now in
+    let b = c.args.b in
+    let block = block_is image b c.wide32.ensures c.fits.ensures c.if-not-fits.false in
+    let due_in = due_in_yes image b (omega arith) in
     subst (Offers _ _ _) (sym c.declined-then-wide64-due_tick.ensures)
-    (due_tick_no _ _ (block-passes) (due-in-passes) (lt-leb (due_of (decode top.args.image.now).clock top.args.b) last_tick (omega (arith, due_is, c.due_tick.ensures, c.wide64-2.ensures, c.if-wide64-due_tick.true))))
+    (due_tick_no _ _ block due_in (lt-leb (due_of (decode image).clock b) last_tick (omega (arith, due_tick_is image b c.u32_at-clock.ensures c.due_tick.ensures))))
 
 pub returns-then-next-eq0 : goal.returns-then-next-eq0
-unfolding decode
 returns-then-next-eq0 c =
-    let block_is : (t : Bool) → c.fits.result ≡ t → BlockIs (decode c.args.image.now) c.args.b t = λ t e. rw (← c.wide32.ensures) (sym c.fits.ensures ∙ e) in
-    let block-passes : BlockIs (decode c.args.image.now) c.args.b true = block_is true c.if-not-fits.false in
-    let due-in-passes : leb c.args.b.due_in max_due_in ≡ true = le-leb c.args.b.due_in max_due_in (omega (arith, c.wide64.ensures, c.if-wide64-gt-MAX_DUE_IN.false)) in
-    let due_is : due_of c.u32_at-clock.result c.args.b ≡ due_of (decode c.args.image.now).clock c.args.b = ap (λ (k : ℕ). due_of k c.args.b) (c.u32_at-clock.ensures ∙ decode_clock c.args.image.now) in
-    let ticket_is : c.u32_at-next.result ≡ (decode c.args.image.now).next = c.u32_at-next.ensures ∙ decode-next c.args.image.now in
-    let due-tick-passes : leb (due_of (decode c.args.image.now).clock c.args.b) last_tick ≡ true = le-leb (due_of (decode c.args.image.now).clock c.args.b) last_tick (omega (arith, due_is, c.due_tick.ensures, c.wide64-2.ensures, c.if-wide64-due_tick.false)) in
+    let image = c.args.image.now in
+    let b = c.args.b in
+    let block = block_is image b c.wide32.ensures c.fits.ensures c.if-not-fits.false in
+    let due_in = due_in_yes image b (omega arith) in
+    let due_tick = due_tick_yes image b c.u32_at-clock.ensures c.due_tick.ensures (omega arith) in
     subst (Offers _ _ _) (sym c.declined-then-next-eq0.ensures)
-    (tickets_no _ _ (block-passes) (due-in-passes) (due-tick-passes) (lt-leb 1 (decode ((c)).args.image.now).next (omega (arith, ticket_is, c.if-next-eq0.true))))
+    (tickets_no _ _ block due_in due_tick (lt-leb 1 (decode image).next (omega (arith, c.u32_at-next.ensures ∙ decode-next image))))
 
 pub returns-then-live-ge-MAX_LIVE : goal.returns-then-live-ge-MAX_LIVE
-unfolding decode
 returns-then-live-ge-MAX_LIVE c =
-    let block_is : (t : Bool) → c.fits.result ≡ t → BlockIs (decode c.args.image.now) c.args.b t = λ t e. rw (← c.wide32.ensures) (sym c.fits.ensures ∙ e) in
-    let block-passes : BlockIs (decode c.args.image.now) c.args.b true = block_is true c.if-not-fits.false in
-    let due-in-passes : leb c.args.b.due_in max_due_in ≡ true = le-leb c.args.b.due_in max_due_in (omega (arith, c.wide64.ensures, c.if-wide64-gt-MAX_DUE_IN.false)) in
-    let due_is : due_of c.u32_at-clock.result c.args.b ≡ due_of (decode c.args.image.now).clock c.args.b = ap (λ (k : ℕ). due_of k c.args.b) (c.u32_at-clock.ensures ∙ decode_clock c.args.image.now) in
-    let ticket_is : c.u32_at-next.result ≡ (decode c.args.image.now).next = c.u32_at-next.ensures ∙ decode-next c.args.image.now in
-    let due-tick-passes : leb (due_of (decode c.args.image.now).clock c.args.b) last_tick ≡ true = le-leb (due_of (decode c.args.image.now).clock c.args.b) last_tick (omega (arith, due_is, c.due_tick.ensures, c.wide64-2.ensures, c.if-wide64-due_tick.false)) in
-    let ticket-passes : leb 1 (decode c.args.image.now).next ≡ true = le-leb 1 (decode c.args.image.now).next (omega (arith, ticket_is, c.if-next-eq0.false)) in
-    let image = ((c)).args.image.now in
+    let image = c.args.image.now in
+    let b = c.args.b in
+    let block = block_is image b c.wide32.ensures c.fits.ensures c.if-not-fits.false in
+    let due_in = due_in_yes image b (omega arith) in
+    let due_tick = due_tick_yes image b c.u32_at-clock.ensures c.due_tick.ensures (omega arith) in
+    let ticket = ticket_yes image b c.u32_at-next.ensures (omega arith) in
     subst (Offers _ _ _) (sym c.declined-then-live-ge-MAX_LIVE.ensures)
-    (room_no _ _ (block-passes) (due-in-passes) (due-tick-passes) (ticket-passes) (le-ltb (length (decode image).orders) max_live (omega (arith, decode-live image, c.if-live-ge-MAX_LIVE.true))))
+    (room_no _ _ block due_in due_tick ticket (le-ltb (length (decode image).orders) max_live (omega (arith, decode-live image))))
 
 pub decode-requires : goal.decode-requires
-decode-requires c =
-    let bytes_of : Below byte_limit c.args.image.now = λ i. (c.shared_slice_known-1.given i).fits in
-    readable _ (bytes_of) c.requires.1 c.requires.0
+decode-requires c = readable _ (λ i. (c.type_inv.image i).fits) c.requires.1 c.requires.0
 
 pub answered-requires : goal.answered-requires
-unfolding decode
 answered-requires c =
-    let bytes_of : Below byte_limit c.args.image.now = λ i. (c.shared_slice_known-1.given i).fits in
-    let block_is : (t : Bool) → c.fits.result ≡ t → BlockIs (decode c.args.image.now) c.args.b t = λ t e. rw (← c.wide32.ensures) (sym c.fits.ensures ∙ e) in
-    let block-passes : BlockIs (decode c.args.image.now) c.args.b true = block_is true c.if-not-fits.false in
-    let due-in-passes : leb c.args.b.due_in max_due_in ≡ true = le-leb c.args.b.due_in max_due_in (omega (arith, c.wide64.ensures, c.if-wide64-gt-MAX_DUE_IN.false)) in
-    let due_is : due_of c.u32_at-clock.result c.args.b ≡ due_of (decode c.args.image.now).clock c.args.b = ap (λ (k : ℕ). due_of k c.args.b) (c.u32_at-clock.ensures ∙ decode_clock c.args.image.now) in
-    let ticket_is : c.u32_at-next.result ≡ (decode c.args.image.now).next = c.u32_at-next.ensures ∙ decode-next c.args.image.now in
-    let due-tick-passes : leb (due_of (decode c.args.image.now).clock c.args.b) last_tick ≡ true = le-leb (due_of (decode c.args.image.now).clock c.args.b) last_tick (omega (arith, due_is, c.due_tick.ensures, c.wide64-2.ensures, c.if-wide64-due_tick.false)) in
-    let ticket-passes : leb 1 (decode c.args.image.now).next ≡ true = le-leb 1 (decode c.args.image.now).next (omega (arith, ticket_is, c.if-next-eq0.false)) in
-    let room-passes : ltb (length (decode c.args.image.now).orders) max_live ≡ true = let image = c.args.image.now in
-    lt-ltb (length (decode image).orders) max_live (omega (arith, decode-live image, c.if-live-ge-MAX_LIVE.false)) in
-    let enough : (decode c.args.image.now).n ≤ length c.args.b.costs = let long : length c.args.b.costs ≡ 8 = search rules in
-    omega (arith, (sound_gives c.args.image.now (bytes_of) c.requires.1).facts.n_high, long) in
-    let fits_in : Fitting (decode c.args.image.now) c.args.b = fitting _ _ (enough) (block-passes) (due-in-passes) (due-tick-passes) (ticket-passes) (room-passes) in
-    let state-is : listed c.decode.result ≡ decode c.args.image.now = listed_is _ (bytes_of) c.requires.1 c.decode.ensures in
-    record { sound_pipeline = sound_pipeline _ (bytes_of) c.requires.1 c.decode.ensures; fitting = subst (λ (s : State). Fitting s c.args.b) (sym (state-is)) (fits_in) }
+    let image = c.args.image.now in
+    let b = c.args.b in
+    let bytes : Below byte_limit image = λ i. (c.type_inv.image i).fits in
+    let eight_costs : length b.costs ≡ 8 = search rules in
+    let enough : (decode image).n ≤ length b.costs = omega (arith, (sound_gives image bytes c.requires.1).facts.n_high) in
+    let block = block_is image b c.wide32.ensures c.fits.ensures c.if-not-fits.false in
+    let due_in = due_in_yes image b (omega arith) in
+    let due_tick = due_tick_yes image b c.u32_at-clock.ensures c.due_tick.ensures (omega arith) in
+    let ticket = ticket_yes image b c.u32_at-next.ensures (omega arith) in
+    let room = room_yes image b (omega arith) in
+    record {
+      sound_pipeline = sound_pipeline _ bytes c.requires.1 c.decode.ensures;
+      fitting = subst (λ (s : State). Fitting s b) (sym (listed_is _ bytes c.requires.1 c.decode.ensures)) (fitting _ _ enough block due_in due_tick ticket room);
+    }
 
 pub returns : goal.returns
-unfolding decode
 returns c =
-    let bytes_of : Below byte_limit c.args.image.now = λ i. (c.shared_slice_known-1.given i).fits in
-    let block_is : (t : Bool) → c.fits.result ≡ t → BlockIs (decode c.args.image.now) c.args.b t = λ t e. rw (← c.wide32.ensures) (sym c.fits.ensures ∙ e) in
-    let block-passes : BlockIs (decode c.args.image.now) c.args.b true = block_is true c.if-not-fits.false in
-    let due-in-passes : leb c.args.b.due_in max_due_in ≡ true = le-leb c.args.b.due_in max_due_in (omega (arith, c.wide64.ensures, c.if-wide64-gt-MAX_DUE_IN.false)) in
-    let due_is : due_of c.u32_at-clock.result c.args.b ≡ due_of (decode c.args.image.now).clock c.args.b = ap (λ (k : ℕ). due_of k c.args.b) (c.u32_at-clock.ensures ∙ decode_clock c.args.image.now) in
-    let ticket_is : c.u32_at-next.result ≡ (decode c.args.image.now).next = c.u32_at-next.ensures ∙ decode-next c.args.image.now in
-    let due-tick-passes : leb (due_of (decode c.args.image.now).clock c.args.b) last_tick ≡ true = le-leb (due_of (decode c.args.image.now).clock c.args.b) last_tick (omega (arith, due_is, c.due_tick.ensures, c.wide64-2.ensures, c.if-wide64-due_tick.false)) in
-    let ticket-passes : leb 1 (decode c.args.image.now).next ≡ true = le-leb 1 (decode c.args.image.now).next (omega (arith, ticket_is, c.if-next-eq0.false)) in
-    let room-passes : ltb (length (decode c.args.image.now).orders) max_live ≡ true = let image = c.args.image.now in
-    lt-ltb (length (decode image).orders) max_live (omega (arith, decode-live image, c.if-live-ge-MAX_LIVE.false)) in
-    let state-is : listed c.decode.result ≡ decode c.args.image.now = listed_is _ (bytes_of) c.requires.1 c.decode.ensures in
-    all_yes _ _ (block-passes) (due-in-passes) (due-tick-passes) (ticket-passes) (room-passes) _ (rw (state-is) at c.answered.ensures)
+    let image = c.args.image.now in
+    let b = c.args.b in
+    let block = block_is image b c.wide32.ensures c.fits.ensures c.if-not-fits.false in
+    let due_in = due_in_yes image b (omega arith) in
+    let due_tick = due_tick_yes image b c.u32_at-clock.ensures c.due_tick.ensures (omega arith) in
+    let ticket = ticket_yes image b c.u32_at-next.ensures (omega arith) in
+    let room = room_yes image b (omega arith) in
+    all_yes _ _ block due_in due_tick ticket room _ (rw (listed_is _ (λ i. (c.type_inv.image i).fits) c.requires.1 c.decode.ensures) at c.answered.ensures)

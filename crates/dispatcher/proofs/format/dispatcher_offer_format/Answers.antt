@@ -1,17 +1,20 @@
 -- As a quote by format, by the offer's call.
 use mathlib.Core.Path.{◌≡◌, sym, ◌∙◌}
-use mathlib.Core.List.{◌∷◌, ◌++◌}
+use mathlib.Core.List.{List}
+use Prim.Native.Nat.{ℕ}
 use borrow.Author.Rules.{rules}
 use Rattle.model.specs.Image.{decode}
-use Rattle.model.specs.Questions.{first_no}
-use Rattle.model.specs.Formats.{FormatOrder, format_questions}
-use Rattle.model.specs.Calls.{reply_question, image_questions}
+use Rattle.model.specs.Formats.{FormatOrder}
 use Rattle.image_laws.proofs.Questions.{replied}
 use Rattle.image_laws.proofs.Read.{decode_n}
 use Rattle.admission.specs.Formats.{held_block}
 use Rattle.dispatcher.proofs.format_parts.SheetLaws.{format_usable, readable, offer_taken_lem, offer_declined}
 use Rattle.dispatcher.proofs.format_parts.HeldLaws.{offer_held}
 use Rattle.dispatcher.proofs.format.dispatcher_offer_format.Goals as goal
+
+-- The order by format of the call's arguments.
+abbrev ordered : ℕ → ℕ → ℕ → List ℕ → FormatOrder
+ordered format due_in rank sheet = record { format = format; due_in = due_in; rank = rank; sheet = sheet }
 
 pub put_decline-requires : goal.put_decline-requires
 put_decline-requires c = λ other.
@@ -23,26 +26,24 @@ returns-then-number-ne0 c =
 
 pub bounds-image-5 : goal.bounds-image-5
 bounds-image-5 c =
-    let order : FormatOrder = record { format = c.args.format; due_in = c.args.due_in; rank = c.args.rank; sheet = c.args.sheet.now } in
-    let all_pass : first_no (reply_question c.args.reply.now ∷ image_questions c.args.image.now ++ format_questions (decode c.args.image.now).n c.args.format c.args.sheet.now) ≡ 0 = sym c.first_format_number-number.ensures ∙ c.if-number-ne0.false in
-    let whole = (format_usable _ order _ (all_pass)).image_whole in search rules
+    let order = ordered c.args.format c.args.due_in c.args.rank c.args.sheet.now in
+    let all_pass = sym c.first_format_number-number.ensures ∙ c.if-number-ne0.false in
+    let whole = (format_usable _ order _ all_pass).image_whole in search rules
 
 pub block_from-requires : goal.block_from-requires
 block_from-requires c =
-    let all_pass : first_no (reply_question c.args.reply.now ∷ image_questions c.args.image.now ++ format_questions (decode c.args.image.now).n c.args.format c.args.sheet.now) ≡ 0 = sym c.first_format_number-number.ensures ∙ c.if-number-ne0.false in
-    rw (c.wide32-n.ensures, decode_n _) (readable _ _ _ (all_pass))
+    let all_pass = sym c.first_format_number-number.ensures ∙ c.if-number-ne0.false in
+    rw (c.wide32-n.ensures, decode_n _) (readable _ _ _ all_pass)
 
 pub offered-requires : goal.offered-requires
 offered-requires c =
-    let order : FormatOrder = record { format = c.args.format; due_in = c.args.due_in; rank = c.args.rank; sheet = c.args.sheet.now } in
-    let all_pass : first_no (reply_question c.args.reply.now ∷ image_questions c.args.image.now ++ format_questions (decode c.args.image.now).n c.args.format c.args.sheet.now) ≡ 0 = sym c.first_format_number-number.ensures ∙ c.if-number-ne0.false in
-    format_usable _ (order) _ (all_pass)
+    let order = ordered c.args.format c.args.due_in c.args.rank c.args.sheet.now in
+    let all_pass = sym c.first_format_number-number.ensures ∙ c.if-number-ne0.false in
+    format_usable _ order _ all_pass
 
 pub returns : goal.returns
 returns c =
-    let order : FormatOrder = record { format = c.args.format; due_in = c.args.due_in; rank = c.args.rank; sheet = c.args.sheet.now } in
-    let all_pass : first_no (reply_question c.args.reply.now ∷ image_questions c.args.image.now ++ format_questions (decode c.args.image.now).n c.args.format c.args.sheet.now) ≡ 0 = sym c.first_format_number-number.ensures ∙ c.if-number-ne0.false in
-    let f = order in
-    let pass = all_pass in
-    let block_is : c.block_from.result ≡ held_block (decode c.args.image.now).n f = rw (← decode_n _, ← c.wide32-n.ensures) c.block_from.ensures in
-    rw (← offer_taken_lem _ f _ pass, ← offer_held _ f _ (readable _ f _ pass), ← block_is) c.offered.ensures
+    let order = ordered c.args.format c.args.due_in c.args.rank c.args.sheet.now in
+    let all_pass = sym c.first_format_number-number.ensures ∙ c.if-number-ne0.false in
+    let block_is : c.block_from.result ≡ held_block (decode c.args.image.now).n order = rw (← decode_n _, ← c.wide32-n.ensures) c.block_from.ensures in
+    rw (← offer_taken_lem _ order _ all_pass, ← offer_held _ order _ (readable _ order _ all_pass), ← block_is) c.offered.ensures

@@ -17,7 +17,7 @@ returns c =
     rw (
       c.u32_at.ensures,
       c.u32_at-2.ensures,
-      zero_rest image (at + station_at) (omega arith) (omega (arith, c.shared_slice_known-1.given (at + station_at))),
+      zero_rest image (at + station_at) (omega arith) (omega (arith, c.type_inv.image (at + station_at))),
       next,
       zero_word image (at + record_zero_at) (omega arith),
       ← part_part image at record_size station_zero_at 3 (omega arith),
