@@ -20,13 +20,13 @@ joined_by-requires c =
     let read : c.order_at-o.result ≡ order_of (record_part c.args.image.now c.loop-i.i) = let loop = c.loop-i in
     c.order_at-o.ensures ∙ ap order_of (still loop.invariant.2 (omega arith)) in
     let sum = c.largest-top.ensures in
-    (sum.0, omega (arith, sum.0, ap (λ (o : Order). o.sum) (read), c.requires.by_index c.loop-i.i (omega arith)))
+    (sum.0, omega (arith, sum.0, ap (λ (o : Order). o.sum) read, c.requires.by_index c.loop-i.i (omega arith)))
 
 pub loop-i-preserved : goal.loop-i-preserved
 loop-i-preserved c =
     let read : c.order_at-o.result ≡ order_of (record_part c.args.image.now c.loop-i.i) = let loop = c.loop-i in
     c.order_at-o.ensures ∙ ap order_of (still loop.invariant.2 (omega arith)) in
-    let row = ap order_bytes (c.joined_by.ensures ∙ ap (joined_by _) (read)) in
+    let row = ap order_bytes (c.joined_by.ensures ∙ ap (joined_by _) read) in
     (omega arith, search rules, rows_more c.loop-i.invariant.2 refl (stored_same c.put_order.ensures.0 row) (ap length (sym row) ∙ c.put_order.ensures.1))
 
 pub returns : goal.returns

@@ -13,10 +13,10 @@ returns-then-number-ne0 c = four_no _ _ _ c.number_to-number.result c.number_to-
 
 pub bounds-image-5 : goal.bounds-image-5
 bounds-image-5 c =
-    let four-pass : first_no (reply_question c.args.reply.now ∷ image_questions c.args.image.now) ≡ 0 = sym c.number_to-number.ensures ∙ c.if-number-ne0.false in
-    omega (arith, (four_usable _ _ (four-pass)).image_whole)
+    let four_pass : first_no (reply_question c.args.reply.now ∷ image_questions c.args.image.now) ≡ 0 = sym c.number_to-number.ensures ∙ c.if-number-ne0.false in
+    omega (arith, (four_usable _ _ four_pass).image_whole)
 
 pub returns : goal.returns
 returns c =
-    let four-pass : first_no (reply_question c.args.reply.now ∷ image_questions c.args.image.now) ≡ 0 = sym c.number_to-number.ensures ∙ c.if-number-ne0.false in
-    four_yes _ _ _ c.number.result (four-pass) (rw (← decode_n _, ← c.wide32.ensures) (c.number.ensures ∙ c.sheet_answer.ensures))
+    let four_pass : first_no (reply_question c.args.reply.now ∷ image_questions c.args.image.now) ≡ 0 = sym c.number_to-number.ensures ∙ c.if-number-ne0.false in
+    four_yes _ _ _ c.number.result four_pass (rw (← decode_n _, ← c.wide32.ensures) (c.number.ensures ∙ c.sheet_answer.ensures))

@@ -19,14 +19,14 @@ returns-then-number-ne0 c =
 pub block_of-requires : goal.block_of-requires
 block_of-requires c =
     let all_pass : first_no (reply_question c.args.reply.now ∷ image_questions c.args.image.now ++ (block_length_question c.args.order.now ∷ [])) ≡ 0 = sym c.first_number-number.ensures ∙ c.if-number-ne0.false in
-    block_whole _ _ _ (all_pass)
+    block_whole _ _ _ all_pass
 
 pub quoted-requires : goal.quoted-requires
 quoted-requires c =
     let all_pass : first_no (reply_question c.args.reply.now ∷ image_questions c.args.image.now ++ (block_length_question c.args.order.now ∷ [])) ≡ 0 = sym c.first_number-number.ensures ∙ c.if-number-ne0.false in
-    block_usable _ _ _ (all_pass)
+    block_usable _ _ _ all_pass
 
 pub returns : goal.returns
 returns c =
     let all_pass : first_no (reply_question c.args.reply.now ∷ image_questions c.args.image.now ++ (block_length_question c.args.order.now ∷ [])) ≡ 0 = sym c.first_number-number.ensures ∙ c.if-number-ne0.false in
-    rw (← quote_taken_lem _ _ _ (all_pass), ← c.block_of.ensures) c.quoted.ensures
+    rw (← quote_taken_lem _ _ _ all_pass, ← c.block_of.ensures) c.quoted.ensures

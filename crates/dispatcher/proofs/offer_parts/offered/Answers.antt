@@ -16,14 +16,14 @@ pub accept-requires : goal.accept-requires
 accept-requires c =
     let number_is : c.reply_of-given.result.number ≡ number_of c.offer-offered.result.decision = ap (λ (r : Reply). r.number) c.reply_of-given.ensures in
     let eight_costs : length c.args.b.costs ≡ 8 = search rules in
-    acceptable _ _ _ c.requires (eight_costs) c.offer-offered.ensures (sym (number_is) ∙ c.if-given-eq0.true)
+    acceptable _ _ _ c.requires eight_costs c.offer-offered.ensures (sym number_is ∙ c.if-given-eq0.true)
 
 pub returns-then-given-eq0 : goal.returns-then-given-eq0
 returns-then-given-eq0 c =
     let number_is : c.reply_of-given.result.number ≡ number_of c.offer-offered.result.decision = ap (λ (r : Reply). r.number) c.reply_of-given.ensures in
     let given : c.reply_of-given.result ≡ reply_of (decode c.args.image.now).next c.offer-offered.result.decision = c.reply_of-given.ensures ∙ ap (λ (t : ℕ). reply_of t c.offer-offered.result.decision) (c.u32_at.ensures ∙ decode-next _) in
     rw (c.accept.ensures, c.put_reply.ensures, c.bits.ensures, to_z-of_z {w = w32} {z = c.reply_of-given.result.margin} (search rules), given)
-    (offer_done _ _ _ c.offer-offered.result.decision c.offer-offered.ensures.decides (sym (number_is) ∙ c.if-given-eq0.true))
+    (offer_done _ _ _ c.offer-offered.result.decision c.offer-offered.ensures.decides (sym number_is ∙ c.if-given-eq0.true))
 
 pub returns-else-given-eq0 : goal.returns-else-given-eq0
 returns-else-given-eq0 c =

@@ -16,5 +16,5 @@ returns c =
     let live = c.wide-live.ensures in
     let orders = rw live at c.put_orders.ensures in
     let zeros = rw live at c.put_zeros.ensures in
-    encoded p c.requires.1 (orders_long) c.requires.0 c.put_header.ensures c.put_services.ensures.0 c.put_services.ensures.1 orders.0 orders.1
+    encoded p c.requires.1 orders_long c.requires.0 c.put_header.ensures c.put_services.ensures.0 c.put_services.ensures.1 orders.0 orders.1
     (stored_same zeros (ap (λ (n : ℕ). replicate n 0) (unused_count _ p.live (omega arith))))

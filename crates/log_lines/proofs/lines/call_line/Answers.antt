@@ -12,6 +12,6 @@ offer_line-requires c = (sym c.begins_with-2.ensures ∙ c.if-begins_with-2.true
 
 pub returns : goal.returns
 returns c =
-    let no-advance = sym c.begins_with.ensures ∙ c.if-begins_with.false in
-    let no-offer = sym c.begins_with-2.ensures ∙ c.if-begins_with-2.false in
-    rw c.refused_here.ensures (call_refused _ _ _ (no_call _ _ no-advance no-offer))
+    let no_advance = sym c.begins_with.ensures ∙ c.if-begins_with.false in
+    let no_offer = sym c.begins_with-2.ensures ∙ c.if-begins_with-2.false in
+    rw c.refused_here.ensures (call_refused _ _ _ (no_call _ _ no_advance no_offer))

@@ -16,25 +16,25 @@ returns-then-not-begins_with c =
 pub read_fields-fields-requires : goal.read_fields-fields-requires
 read_fields-fields-requires c =
     let begun : begins letter_n c.args.line.now ≡ true = sym c.begins_with.ensures ∙ c.if-not-begins_with.false in
-    (begun_long c.args.line.now letter_n (begun), omega arith, omega arith, omega arith)
+    (begun_long c.args.line.now letter_n begun, omega arith, omega arith, omega arith)
 
 pub returns-then-not-fields : goal.returns-then-not-fields
 returns-then-not-fields c =
     let begun : begins letter_n c.args.line.now ≡ true = sym c.begins_with.ensures ∙ c.if-not-begins_with.false in
     rw c.refused_here-then-not-fields.ensures
-    (first_refused _ _ _ (stations_malformed _ (begun) 0 c.read_fields-fields.ensures (not-true _ c.if-not-fields.true)))
+    (first_refused _ _ _ (stations_malformed _ begun 0 c.read_fields-fields.ensures (not-true _ c.if-not-fields.true)))
 
 pub returns-then-n : goal.returns-then-n
 returns-then-n c =
     let begun : begins letter_n c.args.line.now ≡ true = sym c.begins_with.ensures ∙ c.if-not-begins_with.false in
     let formed : c.read_fields-fields.result.formed ≡ true = (not-false _ c.if-not-fields.false) in
     rw c.refused_here-then-n.ensures
-    (first_refused _ _ _ (stations_within _ (begun) 0 c.read_fields-fields.ensures true (formed) c.if-n.true))
+    (first_refused _ _ _ (stations_within _ begun 0 c.read_fields-fields.ensures true formed c.if-n.true))
 
 pub returns : goal.returns
 returns c =
     let begun : begins letter_n c.args.line.now ≡ true = sym c.begins_with.ensures ∙ c.if-not-begins_with.false in
     let formed : c.read_fields-fields.result.formed ≡ true = (not-false _ c.if-not-fields.false) in
-    let is = stations_within _ (begun) 0 c.read_fields-fields.ensures false (formed) c.if-n.false in
-    let count = stations_read _ (begun) 0 c.read_fields-fields.ensures (formed) in
+    let is = stations_within _ begun 0 c.read_fields-fields.ensures false formed c.if-n.false in
+    let count = stations_read _ begun 0 c.read_fields-fields.ensures formed in
     rw c.opened_with.ensures (first_opens _ _ _ _ is count c.dispatcher_open.ensures.image_is)

@@ -11,14 +11,14 @@ returns-then-settled c = nothing_left _ _ _ (sym c.settled.ensures ∙ c.if-sett
 pub returns-then-r-eq1 : goal.returns-then-r-eq1
 returns-then-r-eq1 c =
     let unsettled : settled c.args.r ≡ false = sym c.settled.ensures ∙ c.if-settled.false in
-    first_ended _ _ _ (unsettled) c.if-r-eq1.true c.first_line.ensures
+    first_ended _ _ _ unsettled c.if-r-eq1.true c.first_line.ensures
 
 pub call_line-requires : goal.call_line-requires
 call_line-requires c =
     let unsettled : settled c.args.r ≡ false = sym c.settled.ensures ∙ c.if-settled.false in
-    few_stations _ (unsettled)
+    few_stations _ unsettled
 
 pub returns : goal.returns
 returns c =
     let unsettled : settled c.args.r ≡ false = sym c.settled.ensures ∙ c.if-settled.false in
-    later_ended _ _ _ (unsettled) c.if-r-eq1.false c.call_line.ensures
+    later_ended _ _ _ unsettled c.if-r-eq1.false c.call_line.ensures

@@ -29,7 +29,7 @@ pub run_offer-requires : goal.run_offer-requires
 run_offer-requires c =
     let formed : c.read_fields-fields.result.formed ≡ true = (not-false _ c.if-not-fields.false) in
     let p = c.requires in
-    offer_fits c.args.line.now _ p.1 p.0 c.read_fields-fields.ensures (formed)
+    offer_fits c.args.line.now _ p.1 p.0 c.read_fields-fields.ensures formed
 
 pub returns : goal.returns
 returns c =
@@ -37,4 +37,4 @@ returns c =
     let formed : c.read_fields-fields.result.formed ≡ true = (not-false _ c.if-not-fields.false) in
     let p = c.requires in
     call_made _ _ _ (form ∙ formed) c.if-r-ne0.false
-    (rw (offer_recorded _ _ p.1 p.0 c.read_fields-fields.ensures (formed)) c.run_offer.ensures)
+    (rw (offer_recorded _ _ p.1 p.0 c.read_fields-fields.ensures formed) c.run_offer.ensures)

@@ -40,15 +40,15 @@ returns-then-s-r c =
 
 pub put_result-requires : goal.put_result-requires
 put_result-requires c =
-    let end-room : length (at_end c.args.s.rerun) ≤ 256 = let r = c.args.s.rerun in
+    let end_room : length (at_end c.args.s.rerun) ≤ 256 = let r = c.args.s.rerun in
     let each : (i : ℕ) → Fits w32 (get_or r.busy i 0) = λ i. search rules in
     result_room r (search rules) (λ i. omega (arith, each i)) (omega arith) in
-    omega (arith, end-room)
+    omega (arith, end_room)
 
 pub returns : goal.returns
 returns c =
-    let end-room : length (at_end c.args.s.rerun) ≤ 256 = let r = c.args.s.rerun in
+    let end_room : length (at_end c.args.s.rerun) ≤ 256 = let r = c.args.s.rerun in
     let each : (i : ℕ) → Fits w32 (get_or r.busy i 0) = λ i. search rules in
     result_room r (search rules) (λ i. omega (arith, each i)) (omega arith) in
     let p = c.put_result.ensures in
-    record { put = rw (prints_result c.args.s c.if-r-ne0.false c.if-r-eq0.false c.if-s-r.false) p; within = omega (arith, p.place, end-room) }
+    record { put = rw (prints_result c.args.s c.if-r-ne0.false c.if-r-eq0.false c.if-s-r.false) p; within = omega (arith, p.place, end_room) }

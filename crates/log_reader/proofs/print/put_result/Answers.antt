@@ -20,11 +20,11 @@ returns-then-r-ne0 c =
 pub put_same-requires : goal.put_same-requires
 put_same-requires c =
     let eight : length c.args.r.busy ≡ max_stations = search rules in
-    let same : let r = c.args.r in at_end r ≡ same_lines r.ticks (take c.line_count-n.result r.busy) = ends_same _ _ c.if-r-ne0.false (eight) c.line_count-n.ensures in
-    (omega arith, rw (same) at c.requires)
+    let same : let r = c.args.r in at_end r ≡ same_lines r.ticks (take c.line_count-n.result r.busy) = ends_same _ _ c.if-r-ne0.false eight c.line_count-n.ensures in
+    (omega arith, rw same at c.requires)
 
 pub returns : goal.returns
 returns c =
     let eight : length c.args.r.busy ≡ max_stations = search rules in
-    let same : let r = c.args.r in at_end r ≡ same_lines r.ticks (take c.line_count-n.result r.busy) = ends_same _ _ c.if-r-ne0.false (eight) c.line_count-n.ensures in
-    rw (same) c.put_same.ensures
+    let same : let r = c.args.r in at_end r ≡ same_lines r.ticks (take c.line_count-n.result r.busy) = ends_same _ _ c.if-r-ne0.false eight c.line_count-n.ensures in
+    rw same c.put_same.ensures

@@ -22,7 +22,7 @@ loop-k-preserved c =
     let services = c.args.services in
     let k = c.loop-k.k in (
       omega arith,
-      rw (c.loop-k.invariant.1, c.idle.ensures, c.served_by-served.ensures, ← c.requires.4, served_at_lem services (long) orders k (omega arith))
+      rw (c.loop-k.invariant.1, c.idle.ensures, c.served_by-served.ensures, ← c.requires.4, served_at_lem services long orders k (omega arith))
           (sym (stations_more (idle_or_served orders) idle c.args.n services k (omega (arith, long)))),
     )
 
