@@ -5,7 +5,7 @@
 pub mod limits; // the figures
 
 // A station's service entry: the ticket in service and its ticks to go; (0, 0) is idle.
-#[derive(Clone, Copy)]
+#[derive(Clone, Copy, Debug, Default, PartialEq, Eq)]
 pub struct Service {
     pub ticket: u32,
     pub left: u16,
@@ -14,7 +14,7 @@ pub struct Service {
 // The record of a live order. The station has four bytes so that no byte of an `Order` is padding, and an array of
 // unused ones is a fill. `sum` and `maxima` are over its interference set (document 01: company): the members'
 // largest costs added up, and the largest cost that a member has at each station.
-#[derive(Clone, Copy)]
+#[derive(Clone, Copy, Debug, Default, PartialEq, Eq)]
 pub struct Order {
     pub ticket: u32,
     pub accepted: u32,
@@ -27,7 +27,7 @@ pub struct Order {
 }
 
 // An order as it is offered (document 01: order block).
-#[derive(Clone, Copy)]
+#[derive(Clone, Copy, Debug, Default, PartialEq, Eq)]
 pub struct Block {
     pub due_in: u32,
     pub ranks: [u8; 8],

@@ -5,15 +5,16 @@
 pub mod limits; // the figures
 
 // "On time means R repeats below the deadline".
-#[derive(Clone, Copy)]
+#[derive(Clone, Copy, Debug, Default, PartialEq, Eq)]
 pub enum Verdict {
     OnTime,
+    #[default]
     Late,
 }
 
 // Period, deadline and costs are asked; base, response and verdict are what plan fills in. The response has 64 bits: it can
 // reach 8,928,048,000.
-#[derive(Clone, Copy)]
+#[derive(Clone, Copy, Debug, Default, PartialEq, Eq)]
 pub struct Task {
     pub period: u32,
     pub deadline: u32,
