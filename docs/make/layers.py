@@ -198,8 +198,12 @@ def table():
     return listed
 
 
+# What a crate may use of the kit beside std, which every crate has.
+LIBRARIES = {"arrayvec"}
+
+
 def uses():
-    """What each crate uses, in the order of crates.txt."""
+    """What each crate uses of the other crates, in the order of crates.txt."""
     found = {}
     for line in read("crates.txt").split("\n"):
         name, colon, rest = line.partition("#")[0].partition(":")
@@ -207,7 +211,7 @@ def uses():
             name = name.split()[0]  # without the word of a static library
             if name in found:
                 fail(f"crates.txt has {name} twice")
-            found[name] = rest.split()
+            found[name] = [other for other in rest.split() if other not in LIBRARIES]
     return found
 
 
