@@ -826,8 +826,8 @@ class Structs:
         for line in read(path).split("\n"):
             if line.startswith("//"):
                 comment.append(line)
-            elif line.startswith("#[") and not code:
-                pass  # an attribute, as #[derive(Clone, Copy)], says nothing of what is meant
+            elif line.lstrip().startswith("#["):
+                pass  # an attribute, as #[derive(Clone, Copy)] or #[default], says nothing of what is meant
             elif line.startswith(("pub struct ", "pub enum ")) or code:
                 code.append(line)
                 if line == "}":

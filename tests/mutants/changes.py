@@ -76,15 +76,33 @@ class File:
     def words(self, first, last):
         return self.text[self.span[first][0]:self.span[last][1]]
 
+    def blocks(self):
+        """Name, and first and last token, of each impl block, named as the prover names it: `Text`, and `U16Row` of `impl Row for u16`."""
+        for i, t in enumerate(self.token):
+            if t == "impl" and self.token[i - 1] in ("", "}", ";", "]"):
+                brace = self.token.index("{", i)
+                head = self.token[i + 1:brace]
+                if head[0] == "<":  # the block's own parameters
+                    depth = [0]
+                    for one in head:
+                        depth.append(depth[-1] + (one == "<") - (one == ">"))
+                    head = head[depth.index(0, 1):]
+                of = head.index("for") if "for" in head else len(head)
+                named = "".join("Ref" if w == "&" else w[0].upper() + w[1:] for w in [*head[of + 1:], *head[:of]] if w == "&" or re.match(r"[^\W\d_]\w*$", w))
+                yield named, brace, self.partner[brace]
+
     def functions(self):
-        """Name, and first and last token of the body, of each function; contracts are passed over."""
+        """Name, and first and last token of the body, of each function; contracts are passed over. What a trait declares has no body, and a method has the name of
+        its impl block before its own."""
+        blocks = list(self.blocks())
         for i, t in enumerate(self.token):
             if t == "fn" and NAME.match(self.token[i + 1]):
                 j = self.partner[self.token.index("(", i)] + 1
                 answer = self.token[j + 1] if self.token[j] == "->" else ""
-                while self.token[j] != "{" or {"requires", "ensures"} & set(self.token[j - 2:j]):
+                while self.token[j] != ";" and (self.token[j] != "{" or {"requires", "ensures"} & set(self.token[j - 2:j])):
                     j = self.after(j)
-                yield self.token[i + 1], j, self.partner[j], answer
+                if self.token[j] == "{":
+                    yield "::".join([*(b for b, first, last in blocks if first < i < last), self.token[i + 1]]), j, self.partner[j], answer
 
     def function_at(self, place):
         """The function in whose body this place of the text is, or none."""
@@ -126,7 +144,7 @@ class File:
     def changes(self):
         """(function, operator, [(from, to, words)]) of each change; places are those of the text."""
         for name, first, last, answer in self.functions():
-            local = {p: kind for p, kind in self.known.parameters.get(name, ()) if SCALAR.fullmatch(kind)}
+            local = {p: kind for p, kind in self.known.parameters.get(name.split("::")[-1], ()) if SCALAR.fullmatch(kind)}
             for i in range(first + 1, last):
                 t = self.token
                 if t[i] == ":" and NAME.match(t[i - 1]) and t[i - 2] in ("let", "mut") and SCALAR.fullmatch(t[i + 1]):

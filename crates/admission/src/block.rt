@@ -6,22 +6,20 @@ ghost use Rattle.model.specs.Layout.{block_size};
 ghost use Rattle.model.specs.Soundness.{costs_in_range, zero_beyond};
 ghost use Rattle.model.specs.Admission.{block_of, due_of};
 
-use image::layout::{BLOCK_COSTS_AT, BLOCK_DUE_IN_AT, BLOCK_RANKS_AT};
+use image::layout::{BLOCK_COSTS_AT, BLOCK_DUE_IN_AT, BLOCK_RANKS_AT, BLOCK_SIZE};
 use image::reader::{eight_bytes_at, eight_halves_at, u32_at};
 use model::Block;
 use model::limits::DEFAULT_DUE_IN;
 
 // What a block says. Neither the due-in read from the ranks nor ranks read from the costs meet the promise.
-pub fn block_of(order: &[u8]) -> Block
-    requires { length order.now ≡ block_size }
+#[tactic(auto, unfolding(model::specs::Admission::block_of))]
+pub fn block_of(order: &[u8; BLOCK_SIZE]) -> Block
     ensures { result ≡ block_of order.now }
 {
-    let ranks = eight_bytes_at(order, BLOCK_RANKS_AT);
-    let costs = eight_halves_at(order, BLOCK_COSTS_AT);
     Block {
         due_in: u32_at(order, BLOCK_DUE_IN_AT),
-        ranks: ranks,
-        costs: costs,
+        ranks: eight_bytes_at(order, BLOCK_RANKS_AT),
+        costs: eight_halves_at(order, BLOCK_COSTS_AT),
     }
 }
 
@@ -30,33 +28,26 @@ pub fn block_of(order: &[u8]) -> Block
 pub fn fits(n: u32, b: Block) -> bool
     ensures { result ≡ (costs_in_range n b.costs && zero_beyond n b.costs && zero_beyond n b.ranks) }
 {
-    let ranks = b.ranks;
-    let costs = b.costs;
-    soundness::rows::costs_in_range(n, costs)
-        & soundness::rows::zero_beyond(n, costs)
-        & soundness::rows::ranks_zero_beyond(n, ranks)
-}
-
-fn wide(x: u32) -> u64
-    ensures { (result ≡ x) × (result < 4294967296) }
-{
-    x as u64
+    soundness::rows::costs_in_range(n, b.costs)
+        & soundness::rows::zero_beyond(n, b.costs)
+        & soundness::rows::zero_beyond(n, b.ranks)
 }
 
 fn or_default(due_in: u32) -> u64
-    ensures { (result ≡ cond (is_zero due_in) default_due_in due_in) × (result < 4294967296) }
+    ensures { result ≡ cond (is_zero due_in) default_due_in due_in }
 {
     if due_in == 0 {
         DEFAULT_DUE_IN
     } else {
-        wide(due_in)
+        u64::from(due_in)
     }
 }
 
 // "Due tick = tick of acceptance + due-in.", and 0 stands for the default. In 64 bits, since in 32 the sum can wrap. Neither
 // the due-in alone nor 0 taken as it is meets the promise.
+#[tactic(auto, unfolding(model::specs::Admission::due_of))]
 pub fn due_tick(accepted: u32, b: Block) -> u64
     ensures { result ≡ due_of accepted b }
 {
-    wide(accepted) + or_default(b.due_in)
+    u64::from(accepted) + or_default(b.due_in)
 }

@@ -1,5 +1,6 @@
 // Standard input and output as the programs use them. A read that fails counts as the end of the input, and what cannot be written is
-// lost: so a program's answer is that of the bytes that came, what it writes is a beginning of its answer, and it ends with status 0.
+// lost: so a program's answer is that of the bytes that came, what it writes is a beginning of its answer, and it ends with status 0. The loops stay, since the
+// library's `read_exact` and `write_all` do not say how many bytes came or were taken where they fail.
 #![tactic(auto)]
 
 ghost use Rattle.std.specs.Prelude.{◌≤◌, length, take};

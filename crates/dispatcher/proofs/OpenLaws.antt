@@ -1,74 +1,57 @@
--- What open's number is, and what it tells.
-use mathlib.Core.Path.{◌≡◌, refl, sym, ◌∙◌}
-use mathlib.Core.Bool.{Bool, true, false, ◌||◌}
-use mathlib.Core.List.{List, ◌++◌}
+-- What open comes to, by its questions.
+use mathlib.Core.Path.{◌≡◌, refl, ◌∙◌}
+use mathlib.Core.Bool.{Bool, true, false, true≢false, ◌||◌}
+use mathlib.Core.List.{List}
 use Prim.Native.Nat.{ℕ, ◌≤◌}
 use native.Mathlib.Omega.{arith}
 use lib.ListN.{length}
-use lib.Dec.{ltb, eqb}
-use borrow.Author.Tests.{eq-eqb, ne_eqb, eqb-true, eqb-false, ltb-false}
+use lib.Dec.{ltb}
+use borrow.Author.Tests.{eq-eqb, ne_eqb, ltb-false}
 use Rattle.model.specs.Limits.{max_stations}
-use Rattle.model.specs.Bytes.{four_bytes}
 use Rattle.model.specs.State.{fresh}
 use Rattle.model.specs.Layout.{image_size, reply_size}
 use Rattle.model.specs.Image.{encode}
-use Rattle.model.specs.Questions.{first_no, reply_bytes}
+use Rattle.model.specs.Questions.{first_no, reply_bytes, zeros}
 use Rattle.model.specs.Calls.{reply_question, length_question, open_number, open_call, result}
 use Rattle.lists.proofs.Tests.{inside}
 use Rattle.dispatcher.specs.Gives.{Gives}
-use Rattle.dispatcher.specs.Declined.{declined_reply}
-use Rattle.dispatcher.proofs.replies.Declines.{declines}
+use Rattle.dispatcher.proofs.replies.Declines.{declines, untouched, too_short}
+
+-- Question 14 passes.
+pub few : (n : ℕ) → (ltb n 1 || ltb max_stations n) ≡ false → n ≤ max_stations
+few n e = ltb-false max_stations n (second (ltb n 1) (ltb max_stations n) e)
+  where
+    second : (a b : Bool) → (a || b) ≡ false → b ≡ false
+    second false b e = e
+    second true b e = absurd (true≢false e)
 
 module _ (image : List ℕ) (n : ℕ) (reply : List ℕ) where
-  pub reply_no : (length reply ≡ reply_size → ⊥) → 1 ≡ open_number image n reply
-  unfolding open_number first_no reply_question
-  reply_no h = rw (ne_eqb (length reply) reply_size h)
+  pub open_untouched : (length reply ≡ reply_size → ⊥) → Gives (open_call image n reply) 1 image reply
+  unfolding open_call open_number
+  open_untouched short = untouched _ _ _ _ _ (too_short reply _ short)
 
-  pub length_no : length reply ≡ reply_size → (length image ≡ image_size → ⊥) → 2 ≡ open_number image n reply
-  unfolding open_number first_no reply_question length_question
-  length_no r h = rw (eq-eqb (length reply) reply_size r, ne_eqb (length image) image_size h)
+  module _ (whole : length reply ≡ reply_size) where
+    length_number : (length image ≡ image_size → ⊥) → open_number image n reply ≡ 2
+    unfolding open_number first_no reply_question length_question
+    length_number h = rw (eq-eqb (length reply) reply_size whole, ne_eqb (length image) image_size h)
 
-  pub stations_no : length reply ≡ reply_size → length image ≡ image_size → (ltb n 1 || ltb max_stations n) ≡ true → 14 ≡ open_number image n reply
-  unfolding open_number first_no reply_question length_question
-  stations_no r h o = rw (eq-eqb (length reply) reply_size r, eq-eqb (length image) image_size h, inside 1 max_stations n o)
-
-  pub all_yes : length reply ≡ reply_size → length image ≡ image_size → (ltb n 1 || ltb max_stations n) ≡ false → 0 ≡ open_number image n reply
-  unfolding open_number first_no reply_question length_question
-  all_yes r h o = rw (eq-eqb (length reply) reply_size r, eq-eqb (length image) image_size h, inside 1 max_stations n o)
-
-  -- The number back to the facts: any but 1 says that the reply has its length, and 0 that every question passed.
-  pub heard : (open_number image n reply ≡ 1 → ⊥) → length reply ≡ reply_size
-  heard h = go (eqb (length reply) reply_size) refl
-    where
-      go : (b : Bool) → eqb (length reply) reply_size ≡ b → length reply ≡ reply_size
-      go true e = eqb-true (length reply) reply_size e
-      go false e = absurd (h (sym (reply_no (eqb-false (length reply) reply_size e))))
-
-  module _ (done : open_number image n reply ≡ 0) where
-    pub replied : length reply ≡ reply_size
-    replied = heard (λ e. let z : ◌≡◌ {A = ℕ} 0 1 = sym done ∙ e in omega arith)
-
-    pub whole : length image ≡ image_size
-    whole = go (eqb (length image) image_size) refl
-      where
-        go : (b : Bool) → eqb (length image) image_size ≡ b → length image ≡ image_size
-        go true e = eqb-true (length image) image_size e
-        go false e = absurd (let z : ◌≡◌ {A = ℕ} 2 0 = length_no replied (eqb-false (length image) image_size e) ∙ done in omega arith)
-
-    pub few : n ≤ max_stations
-    few = go (ltb n 1) (ltb max_stations n) refl refl
-      where
-        go : (a b : Bool) → ltb n 1 ≡ a → ltb max_stations n ≡ b → n ≤ max_stations
-        go a false e f = ltb-false max_stations n f
-        go true true e f = absurd (let z : ◌≡◌ {A = ℕ} 14 0 = stations_no replied whole (rw e) ∙ done in omega arith)
-        go false true e f = absurd (let z : ◌≡◌ {A = ℕ} 14 0 = stations_no replied whole (rw (e, f)) ∙ done in omega arith)
-
-  -- The call by its number: 0 writes the image and the reply, any other at most the reply.
-  module _ (number : ℕ) (is : number ≡ open_number image n reply) where
-    pub opened : number ≡ 0 → Gives (open_call image n reply) number (encode (fresh n)) (four_bytes number ++ four_bytes 0 ++ four_bytes 0 ++ four_bytes 0)
-    unfolding open_call result reply_bytes
-    opened zero = record { number_is = is; image_is = rw (← is, zero); reply_is = rw (← is, zero) }
-
-    pub declined : (number ≡ 0 → ⊥) → Gives (open_call image n reply) number image (declined_reply number reply)
+    pub length_no : (length image ≡ image_size → ⊥) → Gives (open_call image n reply) 2 image (reply_bytes 2 zeros)
     unfolding open_call
-    declined some = rw (← is) (declines number _ image _ reply some refl)
+    length_no h = rw (length_number h) (declines 2 _ image _ reply (λ e. omega arith) (λ e. omega arith) refl)
+
+    module _ (long : length image ≡ image_size) where
+      stations_number : (ltb n 1 || ltb max_stations n) ≡ true → open_number image n reply ≡ 14
+      unfolding open_number first_no reply_question length_question
+      stations_number o = rw (eq-eqb (length reply) reply_size whole, eq-eqb (length image) image_size long, inside 1 max_stations n o)
+
+      pub stations_no : (ltb n 1 || ltb max_stations n) ≡ true → Gives (open_call image n reply) 14 image (reply_bytes 14 zeros)
+      unfolding open_call
+      stations_no o = rw (stations_number o) (declines 14 _ image _ reply (λ e. omega arith) (λ e. omega arith) refl)
+
+      zero_number : (ltb n 1 || ltb max_stations n) ≡ false → open_number image n reply ≡ 0
+      unfolding open_number first_no reply_question length_question
+      zero_number o = rw (eq-eqb (length reply) reply_size whole, eq-eqb (length image) image_size long, inside 1 max_stations n o)
+
+      pub done : (ltb n 1 || ltb max_stations n) ≡ false → Gives (open_call image n reply) 0 (encode (fresh n)) (reply_bytes 0 zeros)
+      unfolding open_call result
+      done o = rw (zero_number o) (record { number_is = refl; image_is = refl; reply_is = refl })

@@ -3,16 +3,16 @@ ghost use Rattle.model.specs.Calls.{advance_call};
 ghost use Rattle.dispatcher.specs.Gives.{Gives};
 
 use super::advance_parts::advanced;
-use super::replies::put_decline;
+use super::replies::put_answer;
+use image::layout::REPLY_SIZE;
+use soundness::questions::Refusal;
 
 // Lets one tick pass. Neither a decline that writes into the image nor a clock that goes past its end meets the promise.
 pub fn dispatcher_advance(image: &mut [u8], reply: &mut [u8]) -> u32
     ensures { Gives (advance_call image.old reply.old) result image.new reply.new }
 {
-    let number = soundness::questions::number_to(image, reply);
-    if number != 0 {
-        put_decline(reply, number);
-        return number;
-    }
-    advanced(image, reply)
+    let Some(reply) = reply.as_mut_array::<REPLY_SIZE>() else {
+        return u32::from(Refusal::ReplyLength);
+    };
+    put_answer(reply, advanced(image))
 }

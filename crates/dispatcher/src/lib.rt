@@ -2,6 +2,7 @@
 // call decides its number first, and only then writes: the reply, and the image if it is done. Open's image, and header and entries
 // after a tick, are written from here; an acceptance by `admission::acceptance` and the records after a tick by `tick::leaving`, which
 // know the bytes of the lent image, too.
+// Question 1 is asked in each of the six calls: of a closure that it may leave unrun the prover does not know what it leaves of what it captures.
 #![tactic(auto)]
 
 pub mod replies; // the bytes of a reply, and what a decline leaves of it

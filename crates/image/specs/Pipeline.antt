@@ -1,10 +1,8 @@
 -- The code's `Pipeline` and the definitions' `State` say the same: one has room for 32 records, the other lists the live ones.
-use Rattle.std.specs.Prelude.{◌≡◌, List, [], ◌∷◌, ◌++◌, ℕ, ◌-◌, ◌≤◌, length, take, replicate}
+use Rattle.std.specs.Prelude.{List, [], ◌∷◌, ◌++◌, ℕ, ◌-◌, length, take, replicate}
 use Rattle.model.specs.declared.Order.{Order}
 use Rattle.model.specs.Limits.{max_live}
 use Rattle.model.specs.State.{State}
-use Rattle.model.specs.Layout.{image_size}
-use Rattle.model.specs.Image.{live_count}
 use Rattle.image.specs.declared.pipeline.Pipeline.{Pipeline}
 
 -- "the rest all zero"
@@ -29,8 +27,3 @@ padded s =
 -- The records in use.
 unfoldable pub listed : Pipeline → State
 listed p = record { n = p.n; clock = p.clock; next = p.next; services = p.services; orders = take p.live p.orders }
-
--- An image whose records can be read: whole, with at most 32 live.
-pub record Readable (image : List ℕ) : Type 0 where
-  pub whole : length image ≡ image_size
-  pub room : live_count image ≤ max_live

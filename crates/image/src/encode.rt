@@ -3,7 +3,7 @@ ghost use Rattle.std.specs.Prelude.{◌≡◌, [], ◌∷◌, ◌++◌, map, ◌
 ghost use Rattle.model.specs.Lists.{concat};
 ghost use Rattle.model.specs.Limits.{max_stations, max_live};
 ghost use Rattle.model.specs.Bytes.{one_byte, two_bytes, four_bytes};
-ghost use Rattle.model.specs.Layout.{image_size, services_at, service_size, records_at, record_size, ranks_at, mark, version};
+ghost use Rattle.model.specs.Layout.{services_at, service_size, records_at, record_size, ranks_at, mark, version};
 ghost use Rattle.model.specs.Image.{service_bytes, order_bytes};
 ghost use Rattle.model.specs.Image as says;
 ghost use Rattle.model.specs.State.{fresh};
@@ -11,45 +11,46 @@ ghost use Rattle.lists.specs.Stored.{Stored};
 ghost use Rattle.image.specs.Pipeline.{listed};
 
 use super::layout::{
-    ACCEPTED_AT, CLOCK_AT, COSTS_AT, DUE_AT, LEFT_AT, MARK_C, MARK_M, MARK_W, MARK_W_AT, MAXIMA_AT,
-    NEXT_AT, RANKS_AT, RECORD_SIZE, RECORD_ZERO_AT, RECORDS_AT, SERVICE_SIZE, SERVICE_ZERO_AT,
-    SERVICES_AT, STATION_AT, SUM_AT, VERSION_HIGH, VERSION_HIGH_AT, VERSION_LOW,
+    ACCEPTED_AT, CLOCK_AT, COSTS_AT, DUE_AT, IMAGE_SIZE, LEFT_AT, MARK_C, MARK_M, MARK_W,
+    MARK_W_AT, MAXIMA_AT, NEXT_AT, RANKS_AT, RECORD_SIZE, RECORD_ZERO_AT, RECORDS_AT, SERVICE_SIZE,
+    SERVICE_ZERO_AT, SERVICES_AT, STATION_AT, SUM_AT, VERSION, VERSION_AT,
 };
-use super::pipeline::{Pipeline, wide};
-use super::writer::{put_eight_bytes, put_eight_halves, put_four, put_u16, put_u32};
+use super::pipeline::Pipeline;
+use super::writer::{Row, put, put_rows, put_u16, put_u32};
 use model::{Order, Service};
 
 // The mark `WMC`, the version, the counts, a zero byte, clock and next ticket.
-pub fn put_header(image: &mut [u8], n: u8, live: u8, clock: u32, next: u32)
-    requires { length image.old ≡ image_size }
+pub fn put_header(image: &mut [u8; IMAGE_SIZE], n: u8, live: u8, clock: u32, next: u32)
     ensures { Stored image.old 0 (mark ++ two_bytes version ++ (n ∷ live ∷ 0 ∷ []) ++ four_bytes clock ++ four_bytes next) image.new }
 {
-    put_four(image, MARK_W_AT, MARK_W, MARK_M, MARK_C, VERSION_LOW);
-    put_four(image, VERSION_HIGH_AT, VERSION_HIGH, n, live, 0);
+    let [low, high] = VERSION.to_le_bytes();
+    put(image, MARK_W_AT, [MARK_W, MARK_M, MARK_C, low]);
+    put(image, VERSION_AT + 1, [high, n, live, 0]);
     put_u32(image, CLOCK_AT, clock);
     put_u32(image, NEXT_AT, next);
 }
 
-fn put_service(image: &mut [u8], at: usize, e: Service)
-    requires { at + service_size ≤ length image.old }
-    ensures { Stored image.old at (service_bytes e) image.new }
-{
-    put_u32(image, at, e.ticket);
-    put_u16(image, at + LEFT_AT, e.left);
-    put_u16(image, at + SERVICE_ZERO_AT, 0);
+// A station's entry.
+impl Row for Service {
+    ghost SIZE = { service_size };
+
+    const SIZE: usize = SERVICE_SIZE;
+
+    ghost bytes = { service_bytes };
+
+    #[tactic(auto, unfolding(model::specs::Image::service_bytes))]
+    fn put(self, image: &mut [u8], at: usize) {
+        put_u32(image, at, self.ticket);
+        put_u16(image, at + LEFT_AT, self.left);
+        put_u16(image, at + SERVICE_ZERO_AT, 0);
+    }
 }
 
 // The entries of the eight stations.
-pub fn put_services(image: &mut [u8], services: [Service; 8])
-    requires { length image.old ≡ image_size }
+pub fn put_services(image: &mut [u8; IMAGE_SIZE], services: [Service; 8])
     ensures { Stored image.old services_at (concat (map service_bytes services)) image.new × (length (concat (map service_bytes services)) ≡ service_size * max_stations) }
 {
-    let mut i: usize = 0;
-    while i < 8 {
-        let e = services[i];
-        put_service(image, SERVICES_AT + SERVICE_SIZE * i, e);
-        i += 1;
-    }
+    put_rows(image, SERVICES_AT, &services);
 }
 
 fn put_order_head(image: &mut [u8], at: usize, o: Order)
@@ -64,64 +65,60 @@ fn put_order_head(image: &mut [u8], at: usize, o: Order)
     put_u32(image, at + STATION_AT, o.station % 256);
 }
 
+// A record.
+impl Row for Order {
+    ghost SIZE = { record_size };
+
+    const SIZE: usize = RECORD_SIZE;
+
+    ghost bytes = { order_bytes };
+
+    #[tactic(auto, unfolding(model::specs::Image::order_bytes))]
+    fn put(self, image: &mut [u8], at: usize) {
+        put_order_head(image, at, self);
+        put(image, at + RANKS_AT, self.ranks);
+        put_rows(image, at + COSTS_AT, &self.costs);
+        put_rows(image, at + MAXIMA_AT, &self.maxima);
+        put_u32(image, at + RECORD_ZERO_AT, 0);
+    }
+}
+
 // One record. Neither costs in the place of maxima nor a byte after the record changed meets the promise.
 pub fn put_order(image: &mut [u8], at: usize, o: Order)
     requires { at + record_size ≤ length image.old }
     ensures { Stored image.old at (order_bytes o) image.new × (length (order_bytes o) ≡ record_size) }
 {
-    let ranks = o.ranks;
-    let costs = o.costs;
-    let maxima = o.maxima;
-    put_order_head(image, at, o);
-    put_eight_bytes(image, at + RANKS_AT, ranks);
-    put_eight_halves(image, at + COSTS_AT, costs);
-    put_eight_halves(image, at + MAXIMA_AT, maxima);
-    put_u32(image, at + RECORD_ZERO_AT, 0);
+    o.put(image, at);
 }
 
-fn put_orders(image: &mut [u8], orders: [Order; 32], live: usize)
-    requires { (length image.old ≡ image_size) × (live ≤ max_live) }
-    ensures { Stored image.old records_at (concat (map order_bytes (take live orders))) image.new × (length (concat (map order_bytes (take live orders))) ≡ record_size * live) }
-{
-    let mut i: usize = 0;
-    while i < live {
-        let o = orders[i];
-        put_order(image, RECORDS_AT + RECORD_SIZE * i, o);
-        i += 1;
-    }
-}
-
+#[tactic(auto, using(lists::proofs::Parts::stored_mid))]
 fn put_zeros(out: &mut [u8], from: usize)
     requires { from ≤ length out.old }
     ensures { Stored out.old from (replicate (length out.old - from) 0) out.new }
 {
-    let mut i = from;
-    while i < out.len() {
-        out[i] = 0;
-        i += 1;
-    }
+    out[from..].fill(0);
 }
 
 // The whole image of a state. No call needs it, since each writes only what it changes: tests undo a decode with it, and what
 // has built a state can store it. Neither the bytes of a number in another order nor a byte of the old image left beyond the
 // live records meets the promise.
-pub fn encode(image: &mut [u8], p: Pipeline)
-    requires { (length image.old ≡ image_size) × (p.live ≤ max_live) }
+pub fn encode(image: &mut [u8; IMAGE_SIZE], p: Pipeline)
+    requires { p.live ≤ max_live }
     ensures { image.new ≡ says.encode (listed p) }
 {
-    let live = wide(p.live);
-    let services = p.services;
+    let live = usize::from(p.live);
+    // An array by itself, as `orders_of` has it, is not copied on its way from there: lent out of the state it is, and both
+    // together take a fifth longer.
     let orders = p.orders;
     put_header(image, p.n, p.live, p.clock, p.next);
-    put_services(image, services);
-    put_orders(image, orders, live);
+    put_services(image, p.services);
+    put_rows(image, RECORDS_AT, &orders[..live]);
     put_zeros(image, RECORDS_AT + RECORD_SIZE * live);
 }
 
 // The image of a fresh pipeline: the header, and zeros. No state has to be carried for it. Neither a clock of 1 nor a first
 // ticket of 0 meets the promise.
-pub fn encode_fresh(image: &mut [u8], n: u8)
-    requires { length image.old ≡ image_size }
+pub fn encode_fresh(image: &mut [u8; IMAGE_SIZE], n: u8)
     ensures { image.new ≡ says.encode (fresh n) }
 {
     put_header(image, n, 0, 0, 1);

@@ -16,13 +16,7 @@ pub const MARK_C: u8 = b'C';
 
 pub const VERSION_AT: usize = 3;
 
-pub const VERSION_HIGH_AT: usize = 4;
-
 pub const VERSION: u16 = 1;
-
-pub const VERSION_LOW: u8 = (VERSION % 256) as u8;
-
-pub const VERSION_HIGH: u8 = (VERSION / 256) as u8;
 
 pub const STATION_COUNT_AT: usize = 5;
 

@@ -1,199 +1,170 @@
-// The text that `inspect` prints of an image, into a lent buffer. Each function stores one text of specs/Report.antt from a
-// place on, leaves every other byte alone, and answers the place after the last byte stored. It asks for exactly the room that
-// its text takes; proofs/Room.antt says how much is always enough. A text of more than a few parts is printed by several
-// functions: a proof grows fast with the calls that lend the buffer in one function.
-ghost use Rattle.std.specs.Prelude.{◌++◌, ◌+◌, ◌≤◌, length, take};
+// The text that `inspect` prints of an image. Each function prints one text of specs/Report.antt after what is printed already. It
+// asks for exactly the room that its text takes; proofs/Room.antt says how much is always enough. A text of more than a few parts
+// is printed by several functions: a proof grows fast with the calls that print.
+ghost use Rattle.std.specs.Prelude.{◌≡◌, ◌++◌, ◌≤◌};
 ghost use Rattle.model.specs.Limits.{max_stations, max_live};
-ghost use Rattle.lists.specs.Stored.{Put};
 ghost use Rattle.text.specs.Decimal.{decimal};
+ghost use Rattle.text.specs.Printed.{Printed, Room};
 ghost use Rattle.image.specs.Pipeline.{listed};
-ghost use Rattle.image_text.specs.Report.{line_feed, figure, figure_line, spaced, service_words, station_line, order_ticks, order_figures, order_costs, order_line, head_lines, station_lines, order_lines, state_report, clause_line};
+ghost use Rattle.image_text.specs.Report.{line_feed, figure_line, spaced, service_words, station_line, order_ticks, order_figures, order_costs, order_line, head_lines, station_lines, order_lines, state_report, clause_line};
 
 use image::pipeline::Pipeline;
 use model::{Order, Service};
-
-// A word and a number, with nothing between them.
-pub fn put_figure(out: &mut [u8], at: usize, word: &[u8], v: u32) -> usize
-    requires { at + length (word.now ++ decimal v) ≤ length out.old }
-    ensures { Put out.old at (word.now ++ decimal v) result out.new }
-{
-    let end = text::put_bytes(out, at, word);
-    text::put_decimal(out, end, v as u64)
-}
-
-// A space and a number: one entry of a list.
-fn put_spaced(out: &mut [u8], at: usize, v: u32) -> usize
-    requires { at + length (figure " " v) ≤ length out.old }
-    ensures { Put out.old at (figure " " v) result out.new }
-{
-    put_figure(out, at, b" ", v)
-}
+use text::Text;
 
 // A word and a number as a line.
-fn put_figure_line(out: &mut [u8], at: usize, word: &[u8], v: u32) -> usize
-    requires { at + length (word.now ++ decimal v ++ line_feed) ≤ length out.old }
-    ensures { Put out.old at (word.now ++ decimal v ++ line_feed) result out.new }
+fn put_figure_line(text: &mut Text<'_>, word: &[u8], v: u32)
+    requires { Room text.old (word.now ++ decimal v ++ line_feed) }
+    ensures { Printed text.old (word.now ++ decimal v ++ line_feed) text.new }
 {
-    let end = put_figure(out, at, word, v);
-    text::put_byte(out, end, b'\n')
+    text.figure(word, u64::from(v));
+    text.byte(b'\n');
 }
 
-// A word and the first n numbers, each after a space. Ruled out: all eight where there are fewer stations; a number less.
-fn put_bytes_spaced(out: &mut [u8], at: usize, word: &[u8], n: usize, values: [u8; 8]) -> usize
-    requires { (n ≤ max_stations) × (at + length (word.now ++ spaced (take n values)) ≤ length out.old) }
-    ensures { Put out.old at (word.now ++ spaced (take n values)) result out.new }
+// Numbers, each after a space.
+fn put_spaced(text: &mut Text<'_>, values: &[u16])
+    requires { Room text.old (spaced values.now) }
+    ensures { Printed text.old (spaced values.now) text.new }
 {
-    let mut end = text::put_bytes(out, at, word);
-    let mut i = 0;
-    while i < n {
-        end = put_spaced(out, end, values[i] as u32);
-        i += 1;
+    for v in values {
+        text.figure(b" ", u64::from(*v));
     }
-    end
-}
-
-// The same for numbers of two bytes.
-fn put_halves_spaced(out: &mut [u8], at: usize, word: &[u8], n: usize, values: [u16; 8]) -> usize
-    requires { (n ≤ max_stations) × (at + length (word.now ++ spaced (take n values)) ≤ length out.old) }
-    ensures { Put out.old at (word.now ++ spaced (take n values)) result out.new }
-{
-    let mut end = text::put_bytes(out, at, word);
-    let mut i = 0;
-    while i < n {
-        end = put_spaced(out, end, values[i] as u32);
-        i += 1;
-    }
-    end
 }
 
 // What a station serves, after its number. Ruled out: `ticket 0` of an idle station; `idle` of one with an order in service.
-fn put_service(out: &mut [u8], at: usize, e: Service) -> usize
-    requires { at + length (service_words e) ≤ length out.old }
-    ensures { Put out.old at (service_words e) result out.new }
+#[tactic(auto, unfolding(crate::specs::Report::service_words))]
+fn put_service(text: &mut Text<'_>, e: Service)
+    requires { Room text.old (service_words e) }
+    ensures { Printed text.old (service_words e) text.new }
 {
-    if (e.ticket == 0) & (e.left == 0) {
-        return text::put_bytes(out, at, b" idle");
+    if e == Service::default() {
+        return text.bytes(b" idle");
     }
-    let end = put_figure(out, at, b" ticket ", e.ticket);
-    put_figure(out, end, b" left ", e.left as u32)
+    text.figure(b" ticket ", u64::from(e.ticket));
+    text.figure(b" left ", u64::from(e.left));
 }
 
-fn put_station(out: &mut [u8], at: usize, k: u32, e: Service) -> usize
-    requires { at + length (station_line k e) ≤ length out.old }
-    ensures { Put out.old at (station_line k e) result out.new }
+#[tactic(auto, unfolding(crate::specs::Report::station_line))]
+fn put_station(text: &mut Text<'_>, k: usize, e: Service)
+    requires { Room text.old (station_line k e) }
+    ensures { Printed text.old (station_line k e) text.new }
 {
-    let a = put_figure(out, at, b"station ", k);
-    let b = put_service(out, a, e);
-    text::put_byte(out, b, b'\n')
+    text.figure(b"station ", k as u64);
+    put_service(text, e);
+    text.byte(b'\n');
 }
 
 // The line of an order, in four functions.
-fn put_order_ticks(out: &mut [u8], at: usize, ticket: u32, accepted: u32, due: u32) -> usize
-    requires { at + length (order_ticks ticket accepted due) ≤ length out.old }
-    ensures { Put out.old at (order_ticks ticket accepted due) result out.new }
+#[tactic(auto, unfolding(crate::specs::Report::order_ticks))]
+fn put_order_ticks(text: &mut Text<'_>, o: &Order)
+    requires { Room text.old (order_ticks o.now.ticket o.now.accepted o.now.due) }
+    ensures { Printed text.old (order_ticks o.now.ticket o.now.accepted o.now.due) text.new }
 {
-    let a = put_figure(out, at, b"order ", ticket);
-    let b = put_figure(out, a, b" accepted ", accepted);
-    put_figure(out, b, b" due ", due)
+    text.figure(b"order ", u64::from(o.ticket));
+    text.figure(b" accepted ", u64::from(o.accepted));
+    text.figure(b" due ", u64::from(o.due));
 }
 
-fn put_order_figures(out: &mut [u8], at: usize, o: Order) -> usize
-    requires { at + length (order_figures o) ≤ length out.old }
-    ensures { Put out.old at (order_figures o) result out.new }
+#[tactic(auto, unfolding(crate::specs::Report::order_figures))]
+fn put_order_figures(text: &mut Text<'_>, o: &Order)
+    requires { Room text.old (order_figures o.now) }
+    ensures { Printed text.old (order_figures o.now) text.new }
 {
-    let a = put_order_ticks(out, at, o.ticket, o.accepted, o.due);
-    let b = put_figure(out, a, b" sum ", o.sum);
-    put_figure(out, b, b" station ", o.station)
+    put_order_ticks(text, o);
+    text.figure(b" sum ", u64::from(o.sum));
+    text.figure(b" station ", u64::from(o.station));
 }
 
-fn put_order_costs(out: &mut [u8], at: usize, n: usize, o: Order) -> usize
-    requires { (n ≤ max_stations) × (at + length (order_costs n o) ≤ length out.old) }
-    ensures { Put out.old at (order_costs n o) result out.new }
+// Of costs and maxima, those of the first n stations. Ruled out: all eight where there are fewer stations; a number less.
+#[tactic(auto, unfolding(crate::specs::Report::order_costs))]
+fn put_order_costs(text: &mut Text<'_>, n: usize, o: &Order)
+    requires { (n ≤ max_stations) × Room text.old (order_costs n o.now) }
+    ensures { Printed text.old (order_costs n o.now) text.new }
 {
-    let costs = o.costs;
-    let maxima = o.maxima;
-    let end = put_halves_spaced(out, at, b" costs", n, costs);
-    put_halves_spaced(out, end, b" maxima", n, maxima)
+    text.bytes(b" costs");
+    put_spaced(text, &o.costs[..n]);
+    text.bytes(b" maxima");
+    put_spaced(text, &o.maxima[..n]);
 }
 
-fn put_order(out: &mut [u8], at: usize, n: usize, o: Order) -> usize
-    requires { (n ≤ max_stations) × (at + length (order_line n o) ≤ length out.old) }
-    ensures { Put out.old at (order_line n o) result out.new }
+// Ranks as numbers of the size that costs have.
+fn as_halves(ranks: [u8; 8]) -> [u16; 8]
+    ensures { result ≡ ranks }
 {
-    let ranks = o.ranks;
-    let a = put_order_figures(out, at, o);
-    let b = put_bytes_spaced(out, a, b" ranks", n, ranks);
-    let c = put_order_costs(out, b, n, o);
-    text::put_byte(out, c, b'\n')
+    ranks.map(u16::from)
 }
 
-// The lines of the stations in use. Ruled out: numbers from 0; a line for a station beyond N.
-fn put_stations(out: &mut [u8], at: usize, n: usize, services: [Service; 8]) -> usize
-    requires { (n ≤ max_stations) × (at + length (station_lines (take n services)) ≤ length out.old) }
-    ensures { Put out.old at (station_lines (take n services)) result out.new }
+#[tactic(auto, unfolding(crate::specs::Report::order_line))]
+fn put_order(text: &mut Text<'_>, n: usize, o: &Order)
+    requires { (n ≤ max_stations) × Room text.old (order_line n o.now) }
+    ensures { Printed text.old (order_line n o.now) text.new }
 {
-    let mut end = at;
-    let mut i = 0;
-    while i < n {
-        let e = services[i];
-        end = put_station(out, end, i as u32 + 1, e);
-        i += 1;
+    put_order_figures(text, o);
+    text.bytes(b" ranks");
+    put_spaced(text, &as_halves(o.ranks)[..n]);
+    put_order_costs(text, n, o);
+    text.byte(b'\n');
+}
+
+// The lines of stations. Ruled out: numbers from 0.
+fn put_stations(text: &mut Text<'_>, services: &[Service])
+    requires { Room text.old (station_lines services.now) }
+    ensures { Printed text.old (station_lines services.now) text.new }
+{
+    for (i, e) in services.iter().enumerate() {
+        put_station(text, i + 1, *e);
     }
-    end
 }
 
-// The lines of the live orders. Ruled out: a record after the live ones printed; the first order left out.
-fn put_orders(out: &mut [u8], at: usize, n: usize, live: usize, orders: [Order; 32]) -> usize
-    requires { (n ≤ max_stations) × (live ≤ max_live) × (at + length (order_lines n (take live orders)) ≤ length out.old) }
-    ensures { Put out.old at (order_lines n (take live orders)) result out.new }
+// The lines of orders. Ruled out: the first order left out.
+fn put_orders(text: &mut Text<'_>, n: usize, orders: &[Order])
+    requires { (n ≤ max_stations) × Room text.old (order_lines n orders.now) }
+    ensures { Printed text.old (order_lines n orders.now) text.new }
 {
-    let mut end = at;
-    let mut printed = 0;
-    while printed < live {
-        let o = orders[printed];
-        end = put_order(out, end, n, o);
-        printed += 1;
+    for o in orders {
+        put_order(text, n, o);
     }
-    end
 }
 
-fn put_head(out: &mut [u8], at: usize, n: u8, clock: u32, next: u32) -> usize
-    requires { at + length (head_lines n clock next) ≤ length out.old }
-    ensures { Put out.old at (head_lines n clock next) result out.new }
+#[tactic(auto, unfolding(crate::specs::Report::head_lines))]
+fn put_head(text: &mut Text<'_>, n: u8, clock: u32, next: u32)
+    requires { Room text.old (head_lines n clock next) }
+    ensures { Printed text.old (head_lines n clock next) text.new }
 {
-    let a = put_figure_line(out, at, b"stations ", n as u32);
-    let b = put_figure_line(out, a, b"clock ", clock);
-    put_figure_line(out, b, b"next ", next)
+    put_figure_line(text, b"stations ", u32::from(n));
+    put_figure_line(text, b"clock ", clock);
+    put_figure_line(text, b"next ", next);
 }
 
 // The first line of every report. Ruled out: the number alone, with no word before it; the number in another base than ten.
-pub fn put_number(out: &mut [u8], at: usize, number: u32) -> usize
-    requires { at + length (figure_line "number " number) ≤ length out.old }
-    ensures { Put out.old at (figure_line "number " number) result out.new }
+pub fn put_number(text: &mut Text<'_>, number: u32)
+    requires { Room text.old (figure_line "number " number) }
+    ensures { Printed text.old (figure_line "number " number) text.new }
 {
-    put_figure_line(out, at, b"number ", number)
+    put_figure_line(text, b"number ", number);
 }
 
 // What a sound image says, after the line of its number: the head, the stations in use, the live orders. Ruled out: an order
-// left out; an order's costs where the maxima of its interference set (document 01: company) stand.
-pub fn put_state(out: &mut [u8], at: usize, p: Pipeline) -> usize
-    requires { (p.n ≤ max_stations) × (p.live ≤ max_live) × (at + length (state_report (listed p)) ≤ length out.old) }
-    ensures { Put out.old at (state_report (listed p)) result out.new }
+// left out, or a record after the live ones printed; a line for a station beyond N; an order's costs where the maxima of its
+// interference set (document 01: company) stand.
+pub fn put_state(text: &mut Text<'_>, p: &Pipeline)
+    requires { (p.now.n ≤ max_stations) × (p.now.live ≤ max_live) × Room text.old (state_report (listed p.now)) }
+    ensures { Printed text.old (state_report (listed p.now)) text.new }
 {
-    let services = p.services;
-    let orders = p.orders;
-    let a = put_head(out, at, p.n, p.clock, p.next);
-    let b = put_stations(out, a, p.n as usize, services);
-    put_orders(out, b, p.n as usize, p.live as usize, orders)
+    let n = usize::from(p.n);
+    put_head(text, p.n, p.clock, p.next);
+    put_stations(text, &p.services[..n]);
+    put_orders(text, n, &p.orders[..usize::from(p.live)]);
 }
 
 // Which clause an image breaks, where that is what its number says. Ruled out: the name alone, with no word before it; a line
 // that no line feed ends.
-pub fn put_clause(out: &mut [u8], at: usize, name: &[u8]) -> usize
-    requires { at + length (clause_line name.now) ≤ length out.old }
-    ensures { Put out.old at (clause_line name.now) result out.new }
+#[tactic(auto, unfolding(crate::specs::Report::clause_line))]
+pub fn put_clause(text: &mut Text<'_>, name: &[u8])
+    requires { Room text.old (clause_line name.now) }
+    ensures { Printed text.old (clause_line name.now) text.new }
 {
-    let a = text::put_bytes(out, at, b"clause ");
-    let b = text::put_bytes(out, a, name);
-    text::put_byte(out, b, b'\n')
+    text.bytes(b"clause ");
+    text.bytes(name);
+    text.byte(b'\n');
 }

@@ -7,3 +7,8 @@ pub mod Maxima
 pub mod Overlays
 pub mod Signs
 pub mod Rounding
+pub mod Library
+pub mod Eights
+pub mod Arrays
+pub mod Parts
+pub mod RowByRow

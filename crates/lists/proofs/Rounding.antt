@@ -1,6 +1,7 @@
 -- A quotient rounded up, a / b: how many times b has to be taken to reach a.
 use mathlib.Core.Path.{◌≡◌}
-use Prim.Native.Nat.{ℕ, ◌+◌, ◌-◌, ◌*◌, ◌/◌, ◌≤◌, ◌<◌}
+use Prim.Native.Nat.{ℕ, zero, suc, ◌+◌, ◌-◌, ◌*◌, ◌/◌, ◌%◌, ◌≤◌, ◌<◌, min}
+use Rattle.std.proofs.lemmas.Grind.{div_ceil_times}
 use native.Mathlib.Nat.{le-mul_of_pos_right, add-mul, zero-mul, div-lt_iff_lt-mul, le-div_iff_mul-le, div-mul-le_self}
 use native.Mathlib.Omega.{arith}
 use Rattle.model.specs.Lists.{rounded_up}
@@ -43,3 +44,15 @@ up_rises a a' b h le =
 
 pub up_some : (a b : ℕ) → 1 ≤ a → 1 ≤ b → 1 ≤ rounded_up a b
 up_some a b h k = up_beyond a b 0 k (omega (arith, zero-mul b))
+
+-- The library's division that rounds up.
+pub up_ceil : (a b : ℕ) → 1 ≤ b → a / b + min 1 (a % b) ≡ rounded_up a b
+up_ceil a b h =
+    let t = div_ceil_times a b (omega arith) in
+    go (a / b + min 1 (a % b)) t.0 t.1
+  where
+    go : (d : ℕ) → a ≤ d * b → d * b < a + b → d ≡ rounded_up a b
+    go zero p q = omega (arith, up_within a b zero h p)
+    go (suc d) p q =
+        let e : suc d * b ≡ d * b + b = omega arith in
+        omega (arith, up_within a b (suc d) h p, up_beyond a b d h (omega (arith, e)))

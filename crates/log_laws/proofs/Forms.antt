@@ -15,7 +15,7 @@ use Rattle.text.specs.Parts.{line_feed, space, words}
 use Rattle.lists.proofs.Tests.{and_both, all_append, same_is}
 use Rattle.image_laws.specs.InRange.{word_limit, Below}
 use Rattle.text.proofs.Decimals.{length-decimal}
-use Rattle.text.proofs.Numbers.{is_decimal_lem, value_decimal, decimal_value}
+use Rattle.text.proofs.Values.{is_decimal_lem, value_decimal, decimal_value}
 use Rattle.text.proofs.Joined.{without, separated, parts_joined, cut, decimal_without}
 use Rattle.log_model.specs.Lines.{fits, fit_all, has_form, values_of}
 use Rattle.log_model.specs.Written.{field_bytes, line_bytes}

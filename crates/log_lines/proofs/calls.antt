@@ -1,3 +1,2 @@
--- The fields of an order, and what a line's call comes to.
-pub mod OrderLaws
+-- What a line's call comes to.
 pub mod CallLaws

@@ -1,4 +1,4 @@
--- The laws by which the fields of a line are read, and those that join them with the form of a line.
-pub mod ValueLaws
+-- The form of a line and what its numbers say, the order that they say, and the largest values of an order's fields.
+pub mod OrderLaws
 pub mod FormLaws
 pub mod ReadingLaws

@@ -1,3 +1,2 @@
--- What the fields of a line say of it, and what a line that has ended comes to.
-pub mod LineLaws
+-- What a line that has ended comes to.
 pub mod EndLaws

@@ -1,3 +1,4 @@
--- What the contracts say that `log_model` does not: the fields of a line; what the fields of an order fit, and how a line begins.
-pub mod Fields
+-- What the contracts say that `log_model` does not: the order that values say, what a line records, and what a method leaves of a log that is run.
 pub mod Orders
+pub mod Recorded
+pub mod Running

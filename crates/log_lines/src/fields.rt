@@ -1,125 +1,87 @@
-// The letter of a line, and the numbers after it (document 02, (iv)): "all single-spaced decimals without leading zeros", none "too large
-// for its field".
-ghost use Rattle.std.specs.Prelude.{◌≡◌, ◌&&◌, ◌+◌, ◌*◌, ◌≤◌, ◌<◌, length, get_or, drop, leb, eqb};
+// What a line records: its letter, and the numbers after it (document 02, (iv)): "all single-spaced decimals without leading zeros", none
+// "too large for its field". A value is cast where it is proved to fit.
+ghost use Rattle.std.specs.Prelude.{◌≡◌, ◌+◌, ◌*◌, ◌≤◌, length, take};
 ghost use Rattle.model.specs.Limits.{max_stations};
-ghost use Rattle.text.specs.Parts.{space};
-ghost use Rattle.log_model.specs.Lines.{order_fields};
-ghost use Rattle.log_lines.specs.Fields.{value_in, malformed_fields, fields_in};
+ghost use Rattle.log_model.specs.Lines as defined;
+ghost use Rattle.log_lines.specs.Orders.{OrderFits, order_of};
+ghost use Rattle.log_lines.specs.Recorded as recorded;
 
 use log_model::limits::{MOST_8, MOST_16, MOST_32};
-use text::parts::part_end;
-
-const SPACE: u8 = b' ';
-
-const ZERO: u8 = b'0';
-
-const NINE: u8 = b'9';
+use model::Block;
+use model::limits::MAX_STATIONS;
+use text::numbers::numbers_in;
 
 // An order of eight stations has a due-in, eight ranks, eight costs, a number and a ticket.
 pub const MAX_FIELDS: usize = 19;
 
-// What a word says: a number, or that it is none that fits.
-#[derive(Clone, Copy)]
-pub enum Value {
-    Number(u32),
-    Malformed,
+// What a line of a call records: an order that was offered, with the number and the ticket of its reply, or the ticket out of a done advance.
+#[derive(Clone, Copy, Debug, PartialEq, Eq)]
+pub enum Recorded {
+    Offered {
+        order: Block,
+        number: u32,
+        ticket: u32,
+    },
+    Advanced {
+        ticket: u32,
+    },
 }
 
-// The values of a line's fields, with zeros after them, or zeros alone where it has not the form. (An enum that holds an array is not
-// covered by the borrow checker.)
-#[derive(Clone, Copy)]
-pub struct Fields {
-    pub formed: bool,
-    pub values: [u32; MAX_FIELDS],
-}
-
-// The number that a word is, of any length. Ruled out: 2 for `02`; 0 for 4,294,967,296.
-pub fn value_of(word: &[u8], most: u32) -> Value
-    ensures { result ≡ value_in most word.now }
+// The largest value of each field of an order of n stations, as many as it has, and then others. Ruled out: 16 bits for a rank; 8 for the
+// first cost.
+fn order_fields(n: usize) -> [u32; MAX_FIELDS]
+    requires { n ≤ max_stations }
+    ensures { take (2 * n + 3) result ≡ defined.order_fields n }
 {
-    let n = word.len();
-    if n < 1 {
-        return Value::Malformed;
-    }
-    if (n != 1) & (word[0] == ZERO) {
-        return Value::Malformed;
-    }
-    let mut value: u64 = 0;
-    let mut i = 0;
-    while i < n {
-        let b = word[i];
-        if (b < ZERO) | (NINE < b) {
-            return Value::Malformed;
-        }
-        value = value * 10 + (b - ZERO) as u64;
-        if (most as u64) < value {
-            return Value::Malformed;
-        }
-        i += 1;
-    }
-    Value::Number(value as u32)
+    let mut most = [MOST_32; MAX_FIELDS];
+    most[1..=n].fill(MOST_8);
+    most[n + 1..=2 * n].fill(MOST_16);
+    most
 }
 
-// The largest value of field k, counted from 0, of an order of n stations. Ruled out: 16 bits for a rank; 8 for the first cost.
-fn most_of(n: usize, k: usize) -> u32
-    requires { (n ≤ max_stations) × (k < 2 * n + 3) }
-    ensures { result ≡ get_or (order_fields n) k 0 }
+// The order of such values: its ranks follow the due-in, and its costs the ranks. Ruled out: the due-in as the first rank, the last rank as the
+// first cost; a cost as the rank of a station beyond N, the recorded number as its cost.
+fn order_of(n: usize, values: &[u32; MAX_FIELDS]) -> Block
+    requires { OrderFits n values.now }
+    ensures { result ≡ order_of n values.now }
 {
-    if k < 1 {
-        return MOST_32;
+    let mut order = Block {
+        due_in: values[0],
+        ranks: [0; 8],
+        costs: [0; 8],
+    };
+    for i in 0..n {
+        order.ranks[i] = values[1 + i] as u8;
+        order.costs[i] = values[1 + n + i] as u16;
     }
-    if k <= n {
-        return MOST_8;
-    }
-    if k <= 2 * n { MOST_16 } else { MOST_32 }
+    order
 }
 
-// The answer about a line without the form.
-fn malformed() -> Fields
-    ensures { result ≡ malformed_fields }
+// The station count that a first line says, if it has the form. Ruled out: a count of none, or of nine; one that ends with a space.
+pub fn stations_in(line: &[u8]) -> Option<u32>
+    ensures { result ≡ recorded.stations_in line.now }
 {
-    Fields {
-        formed: false,
-        values: [0u32; MAX_FIELDS],
-    }
+    let numbers = line.strip_prefix(b"N ")?;
+    let [n] = numbers_in::<1>(numbers, &[MOST_32])?;
+    (1..=MAX_STATIONS).contains(&n).then_some(n)
 }
 
-// The first `count` fields of an order of n stations, which are all that a line has from `start` on. A line ends without a space, so after
-// its last word `at` is past its end. Ruled out: the first fields of a longer line; those of a line that ends with a space.
-pub fn read_fields(line: &[u8], start: usize, n: usize, count: usize) -> Fields
-    requires { (start ≤ length line.now) × (n ≤ max_stations) × (1 ≤ count) × (count ≤ 2 * n + 3) }
-    ensures { result ≡ fields_in n count (drop start line.now) }
+// What a later line records in the log of a cabinet of n stations, if it has the form. Ruled out: a second line of a station count; a line with
+// the fields of another station count; a line of the letter alone.
+pub fn call_in(n: usize, line: &[u8]) -> Option<Recorded>
+    requires { n ≤ max_stations }
+    ensures { result ≡ recorded.call_in n line.now }
 {
-    let mut values = [0u32; MAX_FIELDS];
-    let mut at = start;
-    let mut k = 0;
-    while k < count {
-        if line.len() < at {
-            return malformed();
-        }
-        let end = part_end(line, at, SPACE);
-        let Value::Number(value) = value_of(&line[at..end], most_of(n, k)) else {
-            return malformed();
-        };
-        values[k] = value;
-        at = end + 1;
-        k += 1;
+    if let Some(numbers) = line.strip_prefix(b"T ") {
+        let [ticket] = numbers_in::<1>(numbers, &[MOST_32])?;
+        return Some(Recorded::Advanced { ticket });
     }
-    if at <= line.len() {
-        return malformed();
-    }
-    Fields {
-        formed: true,
-        values: values,
-    }
-}
-
-// Whether a line begins with a letter and a space. Ruled out: a line of the letter alone.
-pub fn begins_with(line: &[u8], letter: u8) -> bool
-    ensures { result ≡ (leb 2 (length line.now) && eqb (get_or line.now 0 0) letter && eqb (get_or line.now 1 0) space) }
-{
-    if line.len() < 2 {
-        return false;
-    }
-    (line[0] == letter) & (line[1] == SPACE)
+    let numbers = line.strip_prefix(b"O ")?;
+    let most = order_fields(n);
+    let values = numbers_in::<MAX_FIELDS>(numbers, &most[..2 * n + 3])?;
+    Some(Recorded::Offered {
+        order: order_of(n, &values),
+        number: values[1 + 2 * n],
+        ticket: values[2 + 2 * n],
+    })
 }

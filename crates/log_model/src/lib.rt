@@ -5,10 +5,13 @@
 
 pub mod limits; // the figures
 
+// Both records stand in the definitions of specs/Reading, and theorems speak of their fields (`ReadsAsWhole`, `WhateverChunks`): so 0 says that there is
+// no such line, in place of an Option, and the bytes that are held stand beside their count.
+
 // What the lines that have ended make of a log: the number of the line that is read, from 1, or 0 when lines are no longer
 // counted; N, once the first line has ended; the numbers of the first line of another form and of the first that disagrees, or
 // 0; the ticks that passed, and those in which each station was busy.
-#[derive(Clone, Copy)]
+#[derive(Clone, Copy, Debug, PartialEq, Eq)]
 pub struct Rerun {
     pub line: u64,
     pub stations: u32,
@@ -20,7 +23,7 @@ pub struct Rerun {
 
 // The state of a log that is read: the line that has not ended yet stands in the first `held` bytes of `pending`; of one that
 // is longer than any line of the form, the first 220 bytes.
-#[derive(Clone, Copy)]
+#[derive(Clone, Copy, Debug, PartialEq, Eq)]
 pub struct Reading {
     pub rerun: Rerun,
     pub pending: [u8; 220],

@@ -1,4 +1,4 @@
-// The last column of the rerun, and its rounding (document 02, (iv)).
+// The last column of the rerun, and its rounding (document 02, (iv)). The library divides down and up, and not to nearest.
 ghost use Rattle.std.specs.Prelude.{◌≡◌};
 ghost use Rattle.log_model.specs.Rounding as defined;
 
@@ -10,12 +10,7 @@ pub fn thousandths(busy: u32, all: u32) -> u64
     if all == 0 {
         return 0;
     }
-    let whole = all as u64;
-    let share = busy as u64 * 1000;
-    let low = share / whole;
-    if whole <= 2 * (share % whole) {
-        low + 1
-    } else {
-        low
-    }
+    let whole = u64::from(all);
+    let share = u64::from(busy) * 1000;
+    share / whole + u64::from(whole <= 2 * (share % whole))
 }

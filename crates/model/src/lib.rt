@@ -2,6 +2,9 @@
 // cases in proofs/.
 #![tactic(auto)]
 
+ghost use Rattle.std.specs.Prelude.{◌≡◌, ◌&&◌, not};
+ghost use Rattle.model.specs.Lists.{is_zero};
+
 pub mod limits; // the figures
 
 // A station's service entry: the ticket in service and its ticks to go; (0, 0) is idle.
@@ -9,6 +12,29 @@ pub mod limits; // the figures
 pub struct Service {
     pub ticket: u32,
     pub left: u16,
+}
+
+impl Service {
+    // Whether nobody is in service.
+    pub fn is_idle(self) -> bool
+        ensures { result ≡ is_zero self.ticket }
+    {
+        self.ticket == 0
+    }
+
+    // Whether nothing is to go: so it is at an idle station, and where an order is about to leave.
+    pub fn is_done(self) -> bool
+        ensures { result ≡ is_zero self.left }
+    {
+        self.left == 0
+    }
+
+    // Whether an order is about to leave: document 01, "An order with nothing to go leaves its station".
+    pub fn is_leaving(self) -> bool
+        ensures { result ≡ (not (is_zero self.ticket) && is_zero self.left) }
+    {
+        !self.is_idle() & self.is_done()
+    }
 }
 
 // The record of a live order. The station has four bytes so that no byte of an `Order` is padding, and an array of

@@ -1,3 +1,2 @@
--- What the core's outcome is for a list of records.
-pub mod Passing
+-- What the core gives is what plan gives.
 pub mod Laws

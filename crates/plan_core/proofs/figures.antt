@@ -1,3 +1,3 @@
--- The figures over plain numbers are those of the records.
+-- The figures one by one, and those of a list of tasks.
+pub mod Numbered
 pub mod Same
-pub mod Ranging

@@ -1,2 +1,2 @@
--- The laws of the response iteration.
+-- What replaces R.
 pub mod StepLaws

@@ -1,2 +1,2 @@
--- What the table of a list's first records holds.
-pub mod Tables
+-- The rows of tasks in range.
+pub mod Rows

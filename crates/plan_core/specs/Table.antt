@@ -1,24 +1,20 @@
 -- The task set as plain numbers.
-use Rattle.std.specs.Prelude.{List, ◌++◌, map, ℕ, ◌-◌, take, replicate}
-use Rattle.model.specs.Limits.{max_stations}
-use Rattle.model.specs.Lists.{larger, all}
-use Rattle.plan_model.specs.Limits.{max_tasks}
+use Rattle.std.specs.Prelude.{Result, Ok, Err, cond, List, map, ℕ}
 use Rattle.plan_model.specs.declared.Task.{Task}
-use Rattle.plan_model.specs.Base.{largest_cost, stage_maxima}
+use Rattle.plan_model.specs.Base.{largest_cost}
 use Rattle.plan_model.specs.Plan.{in_range}
-use Rattle.plan_core.specs.declared.table.Table.{Table}
+use Rattle.plan_core.specs.declared.table.Row.{Row}
+use Rattle.plan_core.specs.declared.refusal.Refusal.{Refusal}
+use Rattle.plan_core.specs.declared.refusal.Refusal.TheVariants.{Figures}
 
--- A number of each of the first k records, and 0 after them.
-abbrev pub numbers_of : (Task → ℕ) → ℕ → List Task → List ℕ
-numbers_of number k xs = map number (take k xs) ++ replicate (max_tasks - k) 0
+-- The row of a task, whether it is in range or not.
+unfoldable pub row_of : ℕ → Task → Row
+row_of stations t = record { period = t.period; deadline = t.deadline; cost = largest_cost stations t }
 
--- The table of the first k records. Beside their maxima stand zeros, where there is no station before the last.
-unfoldable pub table_to : ℕ → ℕ → List Task → Table
-table_to stations k xs =
-    record {
-      periods = numbers_of (λ t. t.period) k xs;
-      deadlines = numbers_of (λ t. t.deadline) k xs;
-      costs = numbers_of (largest_cost stations) k xs;
-      maxima = larger (replicate max_stations 0) (stage_maxima stations (take k xs));
-      in_range = all (in_range stations) (take k xs);
-    }
+-- The rows of a list.
+abbrev pub rows_of : ℕ → List Task → List Row
+rows_of stations tasks = map (row_of stations) tasks
+
+-- Question 18 of one task, and its row.
+unfoldable pub row_in : ℕ → Task → Result Row Refusal
+row_in stations t = cond (in_range stations t) (Ok (row_of stations t)) (Err Figures)

@@ -1,66 +1,32 @@
-// A task's costs at the first stations. "Costs beyond N are not read": no loop goes past the stations that it is told.
-ghost use Rattle.std.specs.Prelude.{◌≡◌, ◌≤◌, max, min, take};
+// A task's costs at the first stations. "Costs beyond N are not read": who asks lends the costs up to there, and no more.
+ghost use Rattle.std.specs.Prelude.{◌≡◌, ◌≤◌, length};
 ghost use Rattle.model.specs.Limits.{max_stations, max_cost};
 ghost use Rattle.model.specs.Lists as lists;
 
-use model::limits::{MAX_COST, MAX_STATIONS};
+use model::limits::MAX_COST;
 
-// The stations up to n that a record has costs for.
-pub fn in_record(n: u32) -> usize
-    ensures { (result ≡ min n max_stations) × (result ≤ max_stations) }
+// The largest of some costs. Ruled out: the last of them.
+pub fn largest_cost(costs: &[u32]) -> u32
+    ensures { result ≡ lists.largest costs.now }
 {
-    if n < MAX_STATIONS {
-        n as usize
-    } else {
-        MAX_STATIONS as usize
-    }
+    costs.iter().fold(0, |top, cost| top.max(*cost))
 }
 
-fn larger(a: u32, b: u32) -> u32
-    ensures { result ≡ max a b }
+// "costs 1 to 6,000". Ruled out: a cost of 0 let pass; one of 6,001 let pass.
+pub fn costs_in_range(costs: &[u32]) -> bool
+    ensures { result ≡ lists.all (lists.within 1 max_cost) costs.now }
 {
-    if a < b { b } else { a }
-}
-
-// The largest cost at the first stations. Ruled out: the cost at the last of them.
-pub fn largest_cost(costs: [u32; 8], stations: usize) -> u32
-    requires { stations ≤ max_stations }
-    ensures { result ≡ lists.largest (take stations costs) }
-{
-    let mut top: u32 = 0;
-    let mut k = 0;
-    while k < stations {
-        top = larger(top, costs[k]);
-        k += 1;
-    }
-    top
-}
-
-// "costs 1 to 6,000", at the first stations. Ruled out: a cost of 0 let pass; one of 6,001 let pass.
-pub fn costs_in_range(costs: [u32; 8], stations: usize) -> bool
-    requires { stations ≤ max_stations }
-    ensures { result ≡ lists.all (lists.within 1 max_cost) (take stations costs) }
-{
-    let mut holds = true;
-    let mut k = 0;
-    while k < stations {
-        let c = costs[k];
-        holds = holds & ((1 <= c) & (c <= MAX_COST as u32));
-        k += 1;
-    }
-    holds
+    costs
+        .iter()
+        .all(|cost| (1..=u32::from(MAX_COST)).contains(cost))
 }
 
 // A row with the larger of two entries at each of the first stations. Ruled out: the smaller entries; the costs at stations after them.
-pub fn larger_costs(costs: [u32; 8], row: [u32; 8], stations: usize) -> [u32; 8]
-    requires { stations ≤ max_stations }
-    ensures { result ≡ lists.larger (take stations costs) row }
+pub fn larger_costs(maxima: &mut [u32; 8], costs: &[u32])
+    requires { length costs.now ≤ max_stations }
+    ensures { maxima.new ≡ lists.larger costs.now maxima.old }
 {
-    let mut maxima = row;
-    let mut k = 0;
-    while k < stations {
-        maxima[k] = larger(costs[k], row[k]);
-        k += 1;
+    for (k, cost) in costs.iter().enumerate() {
+        maxima[k] = (*cost).max(maxima[k]);
     }
-    maxima
 }

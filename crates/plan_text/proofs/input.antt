@@ -1,3 +1,3 @@
--- The laws by which the input is read, from a line's task to the questions in their order; AnswerLaws has what the answer tells a caller.
+-- What the first line says, and what the answer tells.
 pub mod InputLaws
 pub mod AnswerLaws

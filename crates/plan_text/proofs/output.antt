@@ -1,3 +1,3 @@
--- Laws of the printed text.
+-- Lengths of what is printed, and room for it.
 pub mod Lengths
 pub mod Room

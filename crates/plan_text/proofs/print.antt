@@ -1,2 +1,2 @@
--- What is printed, by the number that the parts give, and room for it.
+-- What is printed.
 pub mod Laws

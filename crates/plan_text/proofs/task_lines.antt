@@ -1,3 +1,3 @@
--- The laws by which the task lines are read.
+-- The lines of tasks: the numbers of one, and all of them in turn.
 pub mod TaskLaws
 pub mod TableLaws

@@ -3,9 +3,9 @@ use Rattle.std.specs.Prelude.{◌≡◌, List, ℕ, ◌≤◌, length, take}
 use Rattle.model.specs.Limits.{max_stations}
 use Rattle.plan_model.specs.Limits.{max_tasks}
 use Rattle.plan_model.specs.Input.{stations_of, tasks_of}
-use Rattle.plan_text.specs.declared.answer.Parsed.{Parsed}
+use Rattle.plan_text.specs.declared.answer.TaskSet.{TaskSet}
 
-pub record Accepted (input : List ℕ) (answer : Parsed) : Type 0 where
+pub record Accepted (input : List ℕ) (answer : TaskSet) : Type 0 where
   pub stations : answer.n ≡ stations_of input
   pub stations_low : 1 ≤ answer.n
   pub stations_high : answer.n ≤ max_stations

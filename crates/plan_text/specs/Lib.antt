@@ -1,8 +1,5 @@
--- What a word says, and a list at the front of an array.
+-- A list at the front of an array.
 pub mod Padded
-pub mod Words
--- What a line of numbers says.
-pub mod Lines
 -- The answer about an input.
 pub mod Answer
 -- What question 17 says.
@@ -10,3 +7,5 @@ pub mod TaskLines
 -- What the plan program's input says.
 pub mod Parsed
 pub mod Accepted
+-- The tasks with their figures.
+pub mod Planned

@@ -3,30 +3,27 @@
 ghost use Rattle.std.specs.Prelude.{◌≡◌};
 ghost use Rattle.plan_text.specs.Parsed.{parsed};
 
-use super::answer::{Form, Parsed, refused};
-use super::task_lines::{LINE_FEED, read_tasks};
-use super::words::{Value, value_of};
+use super::answer::{Form, TaskSet};
+use super::task_lines::{LINE_FEED, MOST, read_tasks};
 use model::limits::MAX_STATIONS;
 use plan_model::limits::MAX_INPUT;
-use text::parts::part_end;
+use text::numbers::number_of;
+use text::parts::first_part;
 
 // Questions 15 to 17, of any bytes: "first "no" decides". Ruled out: 17 where the first line is no number of stations; a table
 // for an input of 16,385 bytes.
-pub fn parse(input: &[u8]) -> Parsed
+pub fn parse(input: &[u8]) -> Result<TaskSet, Form>
     ensures { result ≡ parsed input.now }
 {
     if MAX_INPUT < input.len() {
-        return refused(Form::TooLong);
+        return Err(Form::TooLong);
     }
-    let end = part_end(input, 0, LINE_FEED);
-    if end == input.len() {
-        return refused(Form::NotStations); // no line feed ends the first line
-    }
-    let Value::Number(n) = value_of(&input[0..end]) else {
-        return refused(Form::NotStations);
+    let (first, Some(rest)) = first_part(input, LINE_FEED) else {
+        return Err(Form::NotStations); // no line feed ends the first line
     };
-    if (n < 1) | (MAX_STATIONS < n) {
-        return refused(Form::NotStations);
+    let n = number_of(first, MOST).ok_or(Form::NotStations)?;
+    if !(1..=MAX_STATIONS).contains(&n) {
+        return Err(Form::NotStations);
     }
-    read_tasks(input, end + 1, n)
+    read_tasks(rest, n)
 }

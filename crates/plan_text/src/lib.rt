@@ -1,8 +1,6 @@
 // The plan program but for reading and writing: input bytes to output bytes.
 #![tactic(auto)]
 
-pub mod words; // words and numbers of a text
-pub mod lines; // its lines
 pub mod answer; // the task set of an input, or why there is none
 pub mod task_lines; // the task lines
 pub mod input; // the questions of an input's form

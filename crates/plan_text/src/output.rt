@@ -1,76 +1,66 @@
-// The text that the plan program prints, into a lent buffer. Each function stores one text of plan_model's `Output` from a place
-// on, leaves every other byte alone, and answers the place after the last byte stored. It asks for exactly the room that its
-// text takes; proofs/Room.antt says how much is always enough.
-ghost use Rattle.std.specs.Prelude.{◌+◌, ◌≤◌, length, take};
-ghost use Rattle.lists.specs.Stored.{Put};
-ghost use Rattle.plan_model.specs.Limits.{max_tasks};
+// The text that the plan program prints, into a lent buffer. Each function prints one text of plan_model's `Output` after the text so far. It asks for
+// exactly the room that its text takes; proofs/Room.antt says how much is always enough.
+ghost use Rattle.text.specs.Printed.{Printed, Room};
 ghost use Rattle.plan_model.specs.Output.{verdict_end, field, task_line, task_lines, table, refusal};
 
 use plan_model::{Task, Verdict};
+use text::Text;
 
 // A figure and a space.
-fn put_field(out: &mut [u8], at: usize, v: u64) -> usize
-    requires { at + length (field v) ≤ length out.old }
-    ensures { Put out.old at (field v) result out.new }
+fn put_field(text: &mut Text, v: u64)
+    requires { Room text.old (field v) }
+    ensures { Printed text.old (field v) text.new }
 {
-    let end = text::put_decimal(out, at, v);
-    text::put_byte(out, end, b' ')
+    text.decimal(v);
+    text.byte(b' ');
 }
 
 // The word of a verdict, and the line feed. Ruled out: the words exchanged.
-fn put_verdict(out: &mut [u8], at: usize, verdict: Verdict) -> usize
-    requires { at + length (verdict_end verdict) ≤ length out.old }
-    ensures { Put out.old at (verdict_end verdict) result out.new }
+fn put_verdict(text: &mut Text, verdict: Verdict)
+    requires { Room text.old (verdict_end verdict) }
+    ensures { Printed text.old (verdict_end verdict) text.new }
 {
     match verdict {
-        Verdict::OnTime => text::put_bytes(out, at, b"on-time\n"),
-        Verdict::Late => text::put_bytes(out, at, b"late\n"),
+        Verdict::OnTime => text.bytes(b"on-time\n"),
+        Verdict::Late => text.bytes(b"late\n"),
     }
 }
 
 // The line of the task with the number k. Ruled out: the response where the base stands.
-fn put_line(out: &mut [u8], at: usize, k: u64, t: Task) -> usize
-    requires { at + length (task_line k t) ≤ length out.old }
-    ensures { Put out.old at (task_line k t) result out.new }
+fn put_line(text: &mut Text, k: u64, t: &Task)
+    requires { Room text.old (task_line k t.now) }
+    ensures { Printed text.old (task_line k t.now) text.new }
 {
-    let base = t.base as u64;
-    let verdict = t.verdict;
-    let a = put_field(out, at, k);
-    let b = put_field(out, a, base);
-    let c = put_field(out, b, t.response);
-    put_verdict(out, c, verdict)
+    put_field(text, k);
+    put_field(text, u64::from(t.base));
+    put_field(text, t.response);
+    put_verdict(text, t.verdict);
 }
 
-// A line for each of the first tasks. Ruled out: numbers from 0.
-fn put_lines(out: &mut [u8], at: usize, tasks: [Task; 32], count: usize) -> usize
-    requires { (count ≤ max_tasks) × (at + length (task_lines (take count tasks)) ≤ length out.old) }
-    ensures { Put out.old at (task_lines (take count tasks)) result out.new }
+// A line for each task. Ruled out: numbers from 0.
+fn put_lines(text: &mut Text, tasks: &[Task])
+    requires { Room text.old (task_lines tasks.now) }
+    ensures { Printed text.old (task_lines tasks.now) text.new }
 {
-    let mut end = at;
-    let mut i = 0;
-    while i < count {
-        let t = tasks[i];
-        end = put_line(out, end, i as u64 + 1, t);
-        i += 1;
+    for (i, t) in tasks.iter().enumerate() {
+        put_line(text, i as u64 + 1, t);
     }
-    end
 }
 
 // The whole table. Ruled out: a heading that no line feed ends; the heading alone.
-pub fn put_table(out: &mut [u8], tasks: [Task; 32], count: usize) -> usize
-    requires { (count ≤ max_tasks) × (length (table (take count tasks)) ≤ length out.old) }
-    ensures { Put out.old 0 (table (take count tasks)) result out.new }
+pub fn put_table(text: &mut Text, tasks: &[Task])
+    requires { Room text.old (table tasks.now) }
+    ensures { Printed text.old (table tasks.now) text.new }
 {
-    let end = text::put_bytes(out, 0, b"task base response verdict\n");
-    put_lines(out, end, tasks, count)
+    text.bytes(b"task base response verdict\n");
+    put_lines(text, tasks);
 }
 
 // The line of a decline. Ruled out: a colon for the space; a space for the line feed.
-pub fn put_refusal(out: &mut [u8], number: u32) -> usize
-    requires { length (refusal number) ≤ length out.old }
-    ensures { Put out.old 0 (refusal number) result out.new }
+pub fn put_refusal(text: &mut Text, number: u32)
+    requires { Room text.old (refusal number) }
+    ensures { Printed text.old (refusal number) text.new }
 {
-    let a = text::put_bytes(out, 0, b"refused ");
-    let b = text::put_decimal(out, a, number as u64);
-    text::put_byte(out, b, b'\n')
+    text.figure(b"refused ", u64::from(number));
+    text.byte(b'\n');
 }

@@ -5,6 +5,11 @@ ghost use Rattle.plan_model.specs.Output.{plan_output};
 ghost use Rattle.plan_text.specs.Parsed.{parsed as parsed_of};
 ghost use Rattle.probe.specs.Rounds.{number_after};
 
+use plan_core::lent::plan;
+use plan_model::limits::MAX_TASKS;
+use plan_text::answer::TaskSet;
+use plan_text::input::parse;
+
 // What the plan program prints for an input.
 pub fn plan_probe_text(input: &[u8], out: &mut [u8; 1024]) -> usize
     ensures put { Put out.old 0 (plan_output input.now) result out.new }
@@ -14,24 +19,22 @@ pub fn plan_probe_text(input: &[u8], out: &mut [u8; 1024]) -> usize
 }
 
 // Plan over the task set of an input, so many times, each on the records as the one before left them. The number that the last
-// one gives; that of the form where it does not pass, or where there is no round.
+// one gives; that of the form where it does not pass, and 0 where there is no round.
 pub fn plan_probe_rounds(input: &[u8], rounds: u32) -> u32
     ensures { result ≡ number_after rounds (parsed_of input.now) }
 {
-    let parsed = plan_text::input::parse(input);
-    let form = parsed.form;
-    let mut number = plan_text::answer::number(form);
-    if number != 0 {
-        return number;
-    }
-    let mut tasks = parsed.tasks;
-    let mut i: u32 = 0;
-    while i < rounds {
-        let planned = plan_core::lent::plan_array(tasks, parsed.count, parsed.n);
-        number = planned.number;
-        let left = planned.tasks;
-        tasks = left;
-        i += 1;
+    let TaskSet {
+        n,
+        count,
+        mut tasks,
+    } = match parse(input) {
+        Ok(set) => set,
+        Err(form) => return u32::from(form),
+    };
+    let held = count.min(MAX_TASKS);
+    let mut number = 0;
+    for _ in 0..rounds {
+        number = plan(&mut tasks[..held], n);
     }
     number
 }

@@ -7,63 +7,35 @@ ghost use Rattle.log_reader.specs.Reached.{Reached};
 
 use image::layout::IMAGE_SIZE;
 use log_model::Reading;
+use log_reader::feed::{begin, feed};
+use log_reader::print::print;
 use std::io::Read;
 
 // So much of a log is read at a time: with less, a long one would spend its time on the calls that read.
 const CHUNK: usize = 65536;
 
-// What was fed, and whether there may be more.
-#[derive(Drop)]
-struct Progress {
-    reading: Reading,
-    more: bool,
-}
-
-// Reads once and feeds what came. A read that fails is the end, and so is one that gives nothing. Ruled out: a state that no bytes lead to;
-// the state before, with an image that has changed.
-fn turn<R: Read>(
-    input: &mut R,
-    s: Reading,
-    image: &mut [u8; IMAGE_SIZE],
-    buf: &mut [u8],
-) -> Progress
-    ensures { Reached (record { reading = s; image = image.old }) (record { reading = result.reading; image = image.new }) }
-{
-    let n = console::read_some(input, buf);
-    if n == 0 {
-        return Progress {
-            reading: s,
-            more: false,
-        };
-    }
-    let fed = log_reader::feed::feed(s, image, &buf[..n]);
-    Progress {
-        reading: fed,
-        more: true,
-    }
-}
-
-// Reads to the end. A proved loop has to end, so it counts its turns, up to a number that no run uses up. Ruled out: a state that is
-// reached from another start; one that no bytes lead to.
+// Reads to the end. A read that fails is the end, and so is one that gives nothing. A proved loop has to end, so it counts its turns, up to a number
+// that no run uses up. Ruled out: a state that is reached from another start; one that no bytes lead to, as the state before with an image that has
+// changed.
 fn read_all<R: Read>(input: &mut R, image: &mut [u8; IMAGE_SIZE]) -> Reading
     ensures { Reached (record { reading = begun; image = image.old }) (record { reading = result; image = image.new }) }
 {
-    let mut buf = [0u8; CHUNK];
-    let mut s = log_reader::feed::begin();
+    let mut buf = [0; CHUNK];
+    let mut s = begin();
     for _ in 0..u64::MAX {
-        let t = turn(input, s, image, &mut buf);
-        s = t.reading;
-        if !t.more {
+        let n = console::read_some(input, &mut buf);
+        if n == 0 {
             break;
         }
+        s = feed(s, image, &buf[..n]);
     }
     s
 }
 
 fn main(rt: HostRuntime) {
-    let mut image = [0u8; IMAGE_SIZE];
+    let mut image = [0; IMAGE_SIZE];
     let s = read_all(&mut rt.stdin(), &mut image);
-    let mut out = [0u8; 256];
-    let end = log_reader::print::print(s, &mut out);
+    let mut out = [0; 256];
+    let end = print(s, &mut out);
     console::write_all(&mut rt.stdout(), &out[..end]);
 }

@@ -14,7 +14,7 @@ use image::layout::{CLOCK_AT, IMAGE_SIZE, LIVE_COUNT_AT, REPLY_SIZE, REPLY_TICKE
 use image::reader::u32_at;
 use std::io::Write;
 use trials::draw::{draw_order, pick, step};
-use trials::soak_rows::{Run, count, fold_all};
+use trials::soak_rows::{Run, fold_all, put_row};
 
 // One pipeline (document 01: cabinet) of each number of stations.
 const PIPELINES: usize = 8;
@@ -24,124 +24,102 @@ const ROWS: u32 = 25;
 
 const CALLS: u32 = 500;
 
-// Of 16 calls, how many are advances: few in one row, so that orders wait, and most in the next, so that they are served.
-fn pace(run: Run) -> u32 {
-    if run.calls / CALLS % 2 == 0 {
-        return 6;
-    }
-    14
+// Which call is made.
+#[derive(Clone, Copy, PartialEq, Eq)]
+enum Kind {
+    Advance,
+    Quote,
+    Offer,
 }
 
-fn advance(image: &mut [u8; IMAGE_SIZE], reply: &mut [u8; REPLY_SIZE], run: Run, seed: u32) -> Run {
-    let number = dispatcher_advance(image, reply);
-    let ticket = u32_at(reply, REPLY_TICKET_AT);
-    let digest = fold_all(fold_all(run.digest, reply), image);
-    count(
-        run,
-        seed,
-        false,
-        (number == 0) & (ticket != 0),
-        number,
-        digest,
-    )
-}
-
-fn quote(
-    image: &mut [u8; IMAGE_SIZE],
-    reply: &mut [u8; REPLY_SIZE],
+// A pipeline of n stations: its image, the last reply, and what a run carries from call to call.
+#[derive(Clone, Copy)]
+struct Pipeline {
     n: usize,
+    image: [u8; IMAGE_SIZE],
+    reply: [u8; REPLY_SIZE],
     run: Run,
-    seed: u32,
-) -> Run
-    requires { (1 ≤ n) × (n ≤ max_stations) }
-{
-    let order = draw_order(seed, n);
-    let number = dispatcher_quote(image, &order, reply);
-    let digest = fold_all(fold_all(run.digest, reply), image);
-    count(run, seed, false, false, number, digest)
+    ghost stations: { (1 ≤ n) × (n ≤ max_stations) },
 }
 
-fn offer(
-    image: &mut [u8; IMAGE_SIZE],
-    reply: &mut [u8; REPLY_SIZE],
-    n: usize,
-    run: Run,
-    seed: u32,
-) -> Run
-    requires { (1 ≤ n) × (n ≤ max_stations) }
-{
-    let order = draw_order(seed, n);
-    let number = dispatcher_offer(image, &order, reply);
-    let digest = fold_all(fold_all(run.digest, reply), image);
-    count(run, seed, number == 0, false, number, digest)
-}
-
-// One call: the generator draws which, and then its order.
-fn call(image: &mut [u8; IMAGE_SIZE], reply: &mut [u8; REPLY_SIZE], n: usize, run: Run) -> Run
-    requires { (1 ≤ n) × (n ≤ max_stations) }
-{
-    let drawn = step(run.seed);
-    let kind = pick(drawn, 16);
-    let advances = pace(run);
-    let seed = step(drawn);
-    if kind < advances {
-        return advance(image, reply, run, seed);
+// The call that a number below 16 stands for: so many of 16 are advances, few in one row, so that orders wait, and most in the
+// next, so that they are served.
+fn kind_of(run: Run, drawn: u32) -> Kind {
+    let advances = if run.calls / CALLS % 2 == 0 { 6 } else { 14 };
+    if drawn < advances {
+        Kind::Advance
+    } else if drawn == advances {
+        Kind::Quote
+    } else {
+        Kind::Offer
     }
-    if kind == advances {
-        return quote(image, reply, n, run, seed);
-    }
-    offer(image, reply, n, run, seed)
 }
 
-// The calls of one row.
-fn stretch(image: &mut [u8; IMAGE_SIZE], reply: &mut [u8; REPLY_SIZE], n: usize, from: Run) -> Run
+impl Pipeline {
+    // The number of stations is also the seed.
+    fn open(n: usize) -> Pipeline
+        requires { (1 ≤ n) × (n ≤ max_stations) }
+    {
+        let mut image = [0; IMAGE_SIZE];
+        let mut reply = [0; REPLY_SIZE];
+        dispatcher_open(&mut image, n as u32, &mut reply);
+        let run = Run::start(n as u32);
+        Pipeline {
+            n,
+            image,
+            reply,
+            run,
+        }
+    }
+
+    // Makes the call, with the order that the seed draws; its number.
+    fn made(&mut self, kind: Kind, seed: u32) -> u32 {
+        let order = draw_order(seed, self.n);
+        match kind {
+            Kind::Advance => dispatcher_advance(&mut self.image, &mut self.reply),
+            Kind::Quote => dispatcher_quote(&self.image, &order, &mut self.reply),
+            Kind::Offer => dispatcher_offer(&mut self.image, &order, &mut self.reply),
+        }
+    }
+
+    // One call: the generator draws which, and then its order.
+    fn call(&mut self) {
+        let drawn = step(self.run.seed);
+        let kind = kind_of(self.run, pick(drawn, 16));
+        let seed = step(drawn);
+        let number = self.made(kind, seed);
+        let ticket = u32_at(&self.reply, REPLY_TICKET_AT);
+        let accepted = (kind == Kind::Offer) & (number == 0);
+        let out = (kind == Kind::Advance) & (number == 0) & (ticket != 0);
+        let digest = fold_all(fold_all(self.run.digest, &self.reply), &self.image);
+        self.run = self.run.count(seed, accepted, out, number, digest);
+    }
+
+    fn print<W: Write>(&self, output: &mut W) {
+        let clock = u32_at(&self.image, CLOCK_AT);
+        let live = u32::from(self.image[LIVE_COUNT_AT]);
+        let mut out = [0; 160];
+        let end = put_row(&mut out, self.run.values(self.n as u32, clock, live));
+        console::write_all(output, &out[..end]);
+    }
+}
+
+// All calls in a pipeline of n stations.
+fn soak<W: Write>(output: &mut W, n: usize)
     requires { (1 ≤ n) × (n ≤ max_stations) }
 {
-    let mut run = from;
-    let mut i = 0;
-    while i < CALLS {
-        run = call(image, reply, n, run);
-        i += 1;
-    }
-    run
-}
-
-fn wide(x: u8) -> u32 {
-    x as u32
-}
-
-fn print<W: Write>(output: &mut W, image: &[u8; IMAGE_SIZE], n: usize, run: Run)
-    requires { n ≤ max_stations }
-{
-    let clock = u32_at(image, CLOCK_AT);
-    let live = wide(image[LIVE_COUNT_AT]);
-    let mut out = [0u8; 160];
-    let values = trials::soak_rows::values_of(n as u32, clock, live, run);
-    let end = trials::soak_rows::put_row(&mut out, values);
-    console::write_all(output, &out[..end]);
-}
-
-// All calls in a pipeline of n stations, which is also the seed.
-fn pipeline<W: Write>(output: &mut W, n: usize)
-    requires { (1 ≤ n) × (n ≤ max_stations) }
-{
-    let mut image = [0u8; IMAGE_SIZE];
-    let mut reply = [0u8; REPLY_SIZE];
-    dispatcher_open(&mut image, n as u32, &mut reply);
-    let mut run = trials::soak_rows::start(n as u32);
-    let mut row = 0;
-    while row < ROWS {
-        run = stretch(&mut image, &mut reply, n, run);
-        print(output, &image, n, run);
-        row += 1;
+    let mut pipeline = Pipeline::open(n);
+    for call in 1..=ROWS * CALLS {
+        pipeline.call();
+        if call % CALLS == 0 {
+            pipeline.print(output);
+        }
     }
 }
 
 fn main(rt: HostRuntime) {
     let output = &mut rt.stdout();
-    let mut n = 1;
-    while n <= PIPELINES {
-        pipeline(output, n);
-        n += 1;
+    for n in 1..=PIPELINES {
+        soak(output, n);
     }
 }

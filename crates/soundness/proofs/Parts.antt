@@ -12,7 +12,10 @@ use lib.Dec.{eqb, ltb, eqb-suc-zero}
 use borrow.Author.Tests.{lt-ltb, le-ltb, ne_eqb}
 use Rattle.model.specs.Lists.{part, is_zero, all}
 use Rattle.model.specs.Bytes.{byte, half, word}
-use Rattle.lists.proofs.Tests.{and_true, all_append}
+use Rattle.lists.proofs.Tests.{and_true, and_assoc, all_append}
+use Rattle.lists.proofs.Overlays.{zero_both}
+use Rattle.std.specs.List.{fold}
+use lib.Bits.{bit_or}
 
 module _ {A : Type 0} where
   part_front : (l : List A) (b m n : ℕ) → b + m ≤ n → part (take n l) b m ≡ part l b m
@@ -74,3 +77,12 @@ zero_rest l a h small =
     let next : a + 1 + 1 ≡ a + 2 = omega arith in
     one_byte_lem (byte l a) (byte l (a + 1)) (half l (a + 2)) small
     ∙ rw (zero_half l (a + 2) (omega arith)) (sym (zero_first l (a + 1) 2 (omega arith) ∙ rw next))
+
+-- Bytes laid one over the other are 0 where each of them is.
+laid_over : (l : List ℕ) (a : ℕ) → is_zero (fold (λ x y. bit_or x y) a l) ≡ (is_zero a && all is_zero l)
+unfolding all
+laid_over [] a = sym (and_true (is_zero a))
+laid_over (b ∷ l) a = laid_over l (bit_or a b) ∙ rw (zero_both a b) (and_assoc (is_zero a) (is_zero b) (all is_zero l))
+
+pub overlaid_zero : (l : List ℕ) → is_zero (fold (λ x y. bit_or x y) 0 l) ≡ all is_zero l
+overlaid_zero l = laid_over l 0

@@ -102,11 +102,11 @@ pub passed_none : (image : List ℕ) (next : ℕ) → Passed image next 0 true 0
 unfolding in_order rises last_of all upward
 passed_none image next = record { clause = refl; final = refl }
 
-pub passed_more : {image : List ℕ} {next i last : ℕ} {holds : Bool} (t : ℕ) → Passed image next i holds last → t ≡ word image (records_at + record_size * i + ticket_at) → Passed image next (i + 1) (holds && ltb last t && (is_zero next || ltb t next)) t
+pub passed_more : {image : List ℕ} {next i last : ℕ} {holds : Bool} (t : ℕ) → Passed image next i holds last → t ≡ word image (records_at + record_size * i + ticket_at) → Passed image next (i + 1) (holds && (ltb last t && (is_zero next || ltb t next))) t
 passed_more {image} {next} {i} {last} {holds} t p e =
     let more : tickets image (i + 1) ≡ tickets image i ++ (t ∷ []) = rw e (upward-more i (ticket_of image)) in
     record {
-      clause = rw (p.clause, p.final, more) (sym (order_more next (tickets image i) t));
+      clause = rw (← and_assoc, p.clause, p.final, more) (sym (order_more next (tickets image i) t));
       final = rw more (sym (last_more 0 (tickets image i) t));
     }
 

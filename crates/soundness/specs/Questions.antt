@@ -1,10 +1,9 @@
--- Document 01's number for each answer: 0 for done, otherwise the question's.
-use Rattle.std.specs.Prelude.{ℕ}
-use Rattle.soundness.specs.declared.questions.Answer.{Answer}
-use Rattle.soundness.specs.declared.questions.Answer.TheVariants.{Passed, ReplyLength, ImageLength, Mark, Unsound, BlockLength, Clock, Stations, Format, Speed}
+-- Document 01's numbers: the question's for each refusal, and 0 where there is none.
+use Rattle.std.specs.Prelude.{ℕ, Result, Ok, Err}
+use Rattle.soundness.specs.declared.questions.Refusal.{Refusal}
+use Rattle.soundness.specs.declared.questions.Refusal.TheVariants.{ReplyLength, ImageLength, Mark, Unsound, BlockLength, Clock, Stations, Format, Speed}
 
-abbrev pub number_of : Answer → ℕ
-number_of Passed = 0
+abbrev pub number_of : Refusal → ℕ
 number_of ReplyLength = 1
 number_of ImageLength = 2
 number_of Mark = 3
@@ -14,3 +13,8 @@ number_of Clock = 13
 number_of Stations = 14
 number_of Format = 19
 number_of Speed = 20
+
+-- Of what may be refused.
+abbrev pub number_given : {A : Type 0} → Result A Refusal → ℕ
+number_given (Ok done) = 0
+number_given (Err refusal) = number_of refusal

@@ -7,6 +7,7 @@ pub mod rows; // what is asked of the rows of a record
 pub mod row_limits; // what may stand at each place of a row, as rows of numbers
 pub mod records; // one live order's record, each clause by its name
 pub mod record_flaws; // the records of all live orders, gathered place by place
+pub mod counted; // an image whose counts are in range
 pub mod tickets; // live tickets in order
 pub mod zeros; // zero bytes and unused records
 pub mod services; // the station entries

@@ -1,51 +1,31 @@
 // Document 01, "Sound means", for the records of all live orders: what is wrong with a row is gathered place by place over
 // all of them and asked for once.
-ghost use Rattle.std.specs.Prelude.{◌≡◌, ◌&&◌, ℕ, ◌-◌, min};
+ghost use Rattle.std.specs.Prelude.{◌≡◌, ◌&&◌, ℕ};
 ghost use Rattle.model.specs.Lists.{all, is_zero};
 ghost use Rattle.model.specs.Soundness.{zero_beyond};
 ghost use Rattle.model.specs.DelayBound.{on_time};
-ghost use Rattle.soundness.specs.RowLimits.{Made};
 ghost use Rattle.soundness.specs.RecordFlaws.{flaw_at};
 ghost use Rattle.soundness.specs.Holds.{ticks_hold, rows_hold};
 
 use super::records::{due_in_range, station_in_use};
-use super::row_limits::{Limits, counted_total};
+use super::row_limits::Limits;
 use model::Order;
 
-// By how much a is above b.
-fn above(a: u16, b: u16) -> u16
-    ensures { result ≡ a - b }
-{
-    if a < b { 0 } else { a - b }
-}
-
-fn above_wide(a: u32, b: u32) -> u32
-    ensures { result ≡ a - b }
-{
-    if a < b { 0 } else { a - b }
-}
-
-// A sum beside costs: no cost is above 65,535.
-fn narrow(x: u32) -> u16
-    ensures { result ≡ min x 65535 }
-{
-    if x < 65535 { x as u16 } else { 65535 }
-}
-
 // "the order on time", by what is left of the time to the due tick: in 32 bits, where a sum of all would need 64.
+#[tactic(auto, using(crate::proofs::record_flaws::FlawLaws::on_time_is))]
 fn on_time_within(l: Limits, o: Order) -> bool
-    requires { Made l }
     ensures { result ≡ on_time l.n o }
 {
-    let maxima = o.maxima;
-    let span = above_wide(o.due, o.accepted);
-    (o.accepted <= o.due) & (o.sum <= span) & (counted_total(l, maxima) <= above_wide(span, o.sum))
+    let span = o.due.saturating_sub(o.accepted);
+    (o.accepted <= o.due)
+        & (o.sum <= span)
+        & (l.counted_total(o.maxima) <= span.saturating_sub(o.sum))
 }
 
 // The clauses of a record's ticks and station. Neither "no" to an order that was accepted now nor "no" to one that has
 // no tick to spare meets the promise.
+#[tactic(auto, unfolding(crate::specs::Holds::ticks_hold))]
 pub fn ticks_hold(l: Limits, clock: u32, o: Order) -> bool
-    requires { Made l }
     ensures { result ≡ ticks_hold l.n clock o }
 {
     (o.accepted <= clock) & due_in_range(o) & station_in_use(l.n, o) & on_time_within(l, o)
@@ -56,28 +36,23 @@ pub fn ticks_hold(l: Limits, clock: u32, o: Order) -> bool
 fn flaw_at(least: u16, most: u16, cost: u16, maximum: u16, sum: u16) -> u16
     ensures { result ≡ flaw_at least most cost maximum sum }
 {
-    above(least, cost) | above(cost, maximum) | above(maximum, most) | above(cost, sum)
+    least.saturating_sub(cost)
+        | cost.saturating_sub(maximum)
+        | maximum.saturating_sub(most)
+        | cost.saturating_sub(sum)
 }
 
 // The flaws of the rows so far with those of one record more. 0 at a place says that every cost there is at least the
 // least, every maximum at least the cost and at most the most, and every sum at least the cost. Neither a cost of 0 at a
 // station nor a cost above its maximum let through meets the promise.
 pub fn flaws_with(flaws: [u16; 8], l: Limits, o: Order) -> [u16; 8]
-    requires { Made l }
     ensures { all is_zero result ≡ (all is_zero flaws && rows_hold l.n o) }
 {
-    let least = l.least;
-    let most = l.most;
-    let costs = o.costs;
-    let maxima = o.maxima;
-    let sum = narrow(o.sum);
-    let mut row: [u16; 8] = [0; 8];
-    let mut k: usize = 0;
-    while k < 8 {
-        row[k] = flaws[k] | flaw_at(least[k], most[k], costs[k], maxima[k], sum);
-        k += 1;
-    }
-    row
+    // The sum beside costs: no cost is above 65,535.
+    let sum = u16::try_from(o.sum).unwrap_or(u16::MAX);
+    std::array::from_fn(|k| {
+        flaws[k] | flaw_at(l.least[k], l.most[k], o.costs[k], o.maxima[k], sum)
+    })
 }
 
 // Ranks of all records laid one over the other: 0 at a place says that every rank there is 0. Neither the last order's ranks
@@ -85,12 +60,5 @@ pub fn flaws_with(flaws: [u16; 8], l: Limits, o: Order) -> [u16; 8]
 pub fn ranks_with(ranks: [u8; 8], o: Order) -> [u8; 8]
     ensures { (n : ℕ) → zero_beyond n result ≡ (zero_beyond n ranks && zero_beyond n o.ranks) }
 {
-    let own = o.ranks;
-    let mut row: [u8; 8] = [0; 8];
-    let mut k: usize = 0;
-    while k < 8 {
-        row[k] = ranks[k] | own[k];
-        k += 1;
-    }
-    row
+    std::array::from_fn(|k| ranks[k] | o.ranks[k])
 }

@@ -11,7 +11,7 @@ use Rattle.lists.proofs.Tests.{and_both, either}
 use Rattle.text.specs.Decimal.{decimal}
 use Rattle.text.specs.Number.{is_digit}
 use Rattle.text.specs.Parts.{parts}
-use Rattle.text.proofs.Numbers.{decimal_digits}
+use Rattle.text.proofs.Values.{decimal_digits}
 
 -- No byte is the separator.
 abbrev pub without : ℕ → List ℕ → Bool

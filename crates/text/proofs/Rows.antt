@@ -1,17 +1,14 @@
--- Rows printed one after the other, of any lengths: what a printing loop keeps, and that it has room for the next row. Row k is given by its
--- place, so that one law serves the rows of a list's entries and of its numbered entries.
+-- How long rows are together of which none is longer than a size. Row k is given by its place, so that one law serves the rows of a list's entries and of its
+-- numbered entries.
 use mathlib.Core.Path.{◌≡◌, refl, ◌∙◌}
 use mathlib.Core.List.{List, [], ◌∷◌, ◌++◌, map}
-use mathlib.Core.Logic.{⊎_elim}
 use Prim.Native.Nat.{ℕ, zero, suc, ◌+◌, ◌*◌, ◌≤◌, ◌<◌}
-use native.Mathlib.Nat.{add-zero, mul-suc, eq-or-lt_of_le, le_of_suc-le-suc}
+use native.Mathlib.Nat.{add-zero, mul-suc}
 use native.Mathlib.Numerals.{add-one}
 use native.Mathlib.Omega.{arith}
 use lib.ListN.{length, get_or, take, length-append}
 use lib.Seq.{take-suc, length-take-le}
 use Rattle.model.specs.Lists.{concat, numbered, upward}
-use Rattle.lists.specs.Stored.{Put}
-use Rattle.lists.proofs.Stores.{put_none, put_then, put_length}
 use Rattle.lists.proofs.Fills.{upward-more, concat-append, concat-one}
 
 module _ (row : ℕ → List ℕ) where
@@ -20,29 +17,6 @@ module _ (row : ℕ → List ℕ) where
 
   length_more : (n : ℕ) → length (concat (upward 0 (suc n) row)) ≡ length (concat (upward 0 n row)) + length (row n)
   length_more n = rw (← add-one, rows_more n) (length-append (concat (upward 0 n row)) (row n))
-
-  -- No row printed; one more; all of them.
-  pub printed_none : (l : List ℕ) (at : ℕ) → Put l at (concat (upward 0 0 row)) at l
-  unfolding upward concat
-  printed_none l at = put_none l at
-
-  pub printed_more : {l m t : List ℕ} {at j k n : ℕ} → Put l at (concat (upward 0 n row)) j m → Put m j (row n) k t → Put l at (concat (upward 0 (n + 1) row)) k t
-  printed_more {n = n} p q = rw (rows_more n) (put_then p q)
-
-  pub printed_all : {l m : List ℕ} {at j i n : ℕ} → i ≡ n → Put l at (concat (upward 0 i row)) j m → Put l at (concat (upward 0 n row)) j m
-  printed_all e p = rw e at p
-
-  room_more : (i n : ℕ) → i < n → length (concat (upward 0 i row)) + length (row i) ≤ length (concat (upward 0 n row))
-  room_more i zero h = absurd (omega arith)
-  room_more i (suc n) h =
-      ⊎_elim
-      (λ e. rw e (omega (arith, length_more n)))
-      (λ l. omega (arith, length_more n, room_more i n l))
-      (eq-or-lt_of_le (le_of_suc-le-suc h))
-
-  -- Room for all the rows is room for the next one.
-  pub printed_room : {l m : List ℕ} {at j i : ℕ} (n : ℕ) → Put l at (concat (upward 0 i row)) j m → i < n → at + length (concat (upward 0 n row)) ≤ length l → j + length (row i) ≤ length m
-  printed_room {i = i} n p h room = omega (arith, p.place, put_length p, room_more i n h)
 
   -- Rows of at most `size` bytes each.
   pub rows_at_most : (size n : ℕ) → ((i : ℕ) → i < n → length (row i) ≤ size) → length (concat (upward 0 n row)) ≤ size * n

@@ -2,4 +2,6 @@
 pub mod Ascii
 pub mod Decimal
 pub mod Number
+pub mod Numbers
 pub mod Parts
+pub mod Printed

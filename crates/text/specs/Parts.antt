@@ -1,5 +1,7 @@
 -- A text as the parts between separators: the lines of an input, the words of a line.
-use Rattle.std.specs.Prelude.{Bool, true, false, ℕ, ◌+◌, length, get_or, drop, eqb}
+use Rattle.std.specs.Prelude.{Bool, true, false, ℕ, eqb}
+use Rattle.std.specs.Prelude.{Option, Some, None}
+use denote.Ref.{Bor}
 use mathlib.Core.List.{List, [], ◌∷◌, drop_last}
 
 -- A line feed ends a line, and a space stands between two words.
@@ -20,6 +22,11 @@ unfoldable pub parts : ℕ → List ℕ → List (List ℕ)
 parts separator [] = [] ∷ []
 parts separator (b ∷ bs) = placed (eqb b separator) b (parts separator bs)
 
+-- The parts of what a separator is followed by, if there is one.
+abbrev pub parts_after : ℕ → Option (Bor (List ℕ)) → List (List ℕ)
+parts_after separator None = []
+parts_after separator (Some rest) = parts separator rest.now
+
 -- The last part: what stands after the last separator.
 unfoldable pub last_of : List (List ℕ) → List ℕ
 last_of [] = []
@@ -36,7 +43,3 @@ lines text = lines_of (parts line_feed text)
 -- The words of a line, between single spaces.
 abbrev pub words : List ℕ → List (List ℕ)
 words line = parts space line
-
--- The place after the first part of the text from a place on: that of its separator, or the end of the text.
-unfoldable pub part_end : ℕ → List ℕ → ℕ → ℕ
-part_end separator text start = start + length (get_or (parts separator (drop start text)) 0 [])

@@ -1,19 +1,15 @@
 // The parts of a text between separators: the lines of an input, the words of a line.
-ghost use Rattle.std.specs.Prelude.{◌≡◌, ◌≤◌, length};
-ghost use Rattle.text.specs.Parts.{part_end};
+ghost use Rattle.std.specs.Prelude.{◌≡◌, ◌∷◌, ◌<◌, length, IfSome};
+ghost use Rattle.text.specs.Parts.{parts, parts_after};
 
-// Where the part that begins at `start` ends: at the next separator, or else with the text. Ruled out: the place after the
-// separator; that of a larger byte before it.
-pub fn part_end(text: &[u8], start: usize, separator: u8) -> usize
-    requires { start ≤ length text.now }
-    ensures { result ≡ part_end separator text.now start }
+// The first part of a text, and what follows the separator that ends it, if one does. Ruled out: a rest that begins with the separator; a part that a
+// larger byte ends.
+pub fn first_part(text: &[u8], separator: u8) -> (&[u8], Option<&[u8]>)
+    ensures split { parts separator text.now ≡ result.0.now ∷ parts_after separator result.1 }
+    ensures shorter { IfSome result.1 (λ rest. length rest.now < length text.now) }
 {
-    let mut i = start;
-    while i < text.len() {
-        if text[i] == separator {
-            return i;
-        }
-        i += 1;
+    match text.iter().position(|b| *b == separator) {
+        Some(end) => (&text[..end], Some(&text[end + 1..])),
+        None => (text, None),
     }
-    i
 }

@@ -9,85 +9,64 @@ ghost use Rattle.tick.specs.Leaving.{finishes, moved_by, Held, Holds, Moved, Lef
 
 use image::decode::order_at;
 use image::encode::put_order;
-use image::layout::{RECORD_SIZE, RECORDS_AT};
-use image::pipeline::unused_order;
+use image::layout::{IMAGE_SIZE, RECORD_SIZE, RECORDS_AT};
 use model::{Order, Service};
 
-// The station after, where e is the entry of the station where the order is.
-fn station_after(e: Service, ticket: u32, station: u32) -> u32
-    requires { station ≤ max_stations }
-    ensures { result ≡ cond (eqb e.ticket ticket && is_zero e.left) (station + 1) station }
-{
-    if (e.ticket == ticket) & (e.left == 0) {
-        station + 1
-    } else {
-        station
-    }
-}
-
-// The record of an order at the station where it then is.
+// The record of an order at the station where it then is, where e is the entry of the station where it was.
+#[tactic(auto, unfolding(crate::specs::Leaving::moved_by, model::specs::Tick::move_to))]
 fn moved(e: Service, o: Order) -> Order
     requires { o.station ≤ max_stations }
     ensures { result ≡ moved_by e o }
 {
-    let mut m = o;
-    m.station = station_after(e, o.ticket, o.station);
-    m
+    if (e.ticket == o.ticket) & e.is_done() {
+        Order {
+            station: o.station + 1,
+            ..o
+        }
+    } else {
+        o
+    }
 }
 
 // Whether any order leaves a station.
 fn any_leaves(services: [Service; 8]) -> bool
     ensures { result ≡ any finishes services }
 {
-    let mut leaves = false;
-    let mut k: usize = 0;
-    while k < 8 {
-        let e = services[k];
-        leaves = leaves | ((e.ticket != 0) & (e.left == 0));
-        k += 1;
-    }
-    leaves
+    services.iter().any(|e| e.is_leaving())
 }
 
 // Goes once over the live records of the image: each order moves, and its record is put back, behind those that stay, unless it
 // is past station n; how many stay. A record is read before any is put in its place. Neither an order at station n removed nor
 // one that is out kept meets the promise.
-fn put_remaining(image: &mut [u8], n: u32, services: [Service; 8], live: usize) -> usize
-    requires { (length image.old ≡ image_size) × Held n (orders_of image.old live) }
+fn put_remaining(image: &mut [u8; IMAGE_SIZE], n: u32, services: [Service; 8], live: usize) -> usize
+    requires { Held n (orders_of image.old live) }
     ensures { Moved n services (orders_of image.old live) image.old result image.new }
 {
     let mut kept: usize = 0;
-    let mut i: usize = 0;
-    while i < live {
+    for i in 0..live {
         let o = order_at(image, i);
-        let k = (o.station - 1) as usize;
-        let m = moved(services[k], o);
+        let m = moved(services[o.station as usize - 1], o);
         if m.station <= n {
             put_order(image, RECORDS_AT + RECORD_SIZE * kept, m);
             kept += 1;
         }
-        i += 1;
     }
     kept
 }
 
 // The live records from place `kept` on become zero.
-fn put_unused(image: &mut [u8], kept: usize, live: usize)
-    requires { (length image.old ≡ image_size) × (kept ≤ live) × (live ≤ max_live) }
+fn put_unused(image: &mut [u8; IMAGE_SIZE], kept: usize, live: usize)
+    requires { (kept ≤ live) × (live ≤ max_live) }
     ensures { Stored image.old (records_at + record_size * kept) (replicate (record_size * (live - kept)) 0) image.new }
 {
-    let mut j = kept;
-    while j < live {
-        put_order(image, RECORDS_AT + RECORD_SIZE * j, unused_order());
-        j += 1;
-    }
+    image[RECORDS_AT + RECORD_SIZE * kept..RECORDS_AT + RECORD_SIZE * live].fill(0);
 }
 
 // The records after the tick, in the place of those from before it, and how many they are. In a tick in which no order leaves a
 // station they are as they were, and nothing is written. The record of an order that is out, left behind, does not meet the
 // promise.
-pub fn leave(image: &mut [u8], n: u32, services: [Service; 8], live: usize) -> usize
-    requires { (length image.old ≡ image_size) × Held n (orders_of image.old live) × Holds image.old (orders_of image.old live) }
+pub fn leave(image: &mut [u8; IMAGE_SIZE], n: u32, services: [Service; 8], live: usize) -> usize
+    requires { Held n (orders_of image.old live) × Holds image.old (orders_of image.old live) }
     ensures { Left n services (orders_of image.old live) image.old result image.new }
 {
     if any_leaves(services) {

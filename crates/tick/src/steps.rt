@@ -6,7 +6,7 @@ ghost use Rattle.image.specs.SoundPipeline.{SoundPipeline};
 
 use super::entries::tick_all;
 use super::starting::started;
-use image::pipeline::{Pipeline, wide};
+use image::pipeline::Pipeline;
 use model::Service;
 
 // "Advance does this, in order": the station entries once each idle station has started an order and each order in service has
@@ -16,8 +16,6 @@ pub fn served(p: Pipeline) -> [Service; 8]
     requires { SoundPipeline p }
     ensures { result ≡ (tick (starts (listed p))).services }
 {
-    let entries = p.services;
-    let orders = p.orders;
-    let begun = started(entries, orders, wide(p.live));
+    let begun = started(p.services, p.orders, usize::from(p.live));
     tick_all(begun)
 }

@@ -1,43 +1,47 @@
-// The line that a program prints of a call, into a lent buffer. Each function stores one text of specs/CaseLines.antt from a
-// place on, leaves every other byte alone, and answers the place after the last byte stored.
-ghost use Rattle.std.specs.Prelude.{◌+◌, ◌≤◌, length};
+// The line that a program prints of a call, into a lent buffer. Each function prints one text of specs/CaseLines.antt after what is
+// printed already.
+ghost use Rattle.std.specs.Prelude.{◌≤◌, length};
 ghost use Rattle.lists.specs.Stored.{Put};
+ghost use Rattle.text.specs.Printed.{Printed, Room};
 ghost use Rattle.trials.specs.CaseLines.{signed, reply_figures, reply_margin, reply_line};
 
 use image::layout::{REPLY_MARGIN_AT, REPLY_NUMBER_AT, REPLY_SIZE, REPLY_TICK_AT, REPLY_TICKET_AT};
 use image::reader::u32_at;
-use image_text::report::put_figure;
+use text::Text;
 
 // The least of the 32 bits that stand for a number below zero.
 const BELOW_ZERO: u32 = 2147483648;
 
 // A margin, by its bits. Ruled out: 4294967295 for -1; a sign before a number that is not below zero.
-fn put_signed(out: &mut [u8], at: usize, bits: u32) -> usize
-    requires { at + length (signed bits) ≤ length out.old }
-    ensures { Put out.old at (signed bits) result out.new }
+fn put_signed(text: &mut Text<'_>, bits: u32)
+    requires { Room text.old (signed bits) }
+    ensures { Printed text.old (signed bits) text.new }
 {
+    // With `cast_signed` for this test the proof did not close.
     if bits < BELOW_ZERO {
-        return text::put_decimal(out, at, bits as u64);
+        return text.decimal(u64::from(bits));
     }
-    put_figure(out, at, b"-", 4294967295 - bits + 1)
+    text.figure(b"-", u64::from(bits.wrapping_neg()));
 }
 
 // Number, ticket and tick of a reply.
-fn put_figures(out: &mut [u8], at: usize, number: u32, ticket: u32, tick: u32) -> usize
-    requires { at + length (reply_figures number ticket tick) ≤ length out.old }
-    ensures { Put out.old at (reply_figures number ticket tick) result out.new }
+#[tactic(auto, unfolding(crate::specs::CaseLines::reply_figures))]
+fn put_figures(text: &mut Text<'_>, number: u32, ticket: u32, tick: u32)
+    requires { Room text.old (reply_figures number ticket tick) }
+    ensures { Printed text.old (reply_figures number ticket tick) text.new }
 {
-    let a = put_figure(out, at, b": number ", number);
-    let b = put_figure(out, a, b" ticket ", ticket);
-    put_figure(out, b, b" tick ", tick)
+    text.figure(b": number ", u64::from(number));
+    text.figure(b" ticket ", u64::from(ticket));
+    text.figure(b" tick ", u64::from(tick));
 }
 
-fn put_margin(out: &mut [u8], at: usize, bits: u32) -> usize
-    requires { at + length (reply_margin bits) ≤ length out.old }
-    ensures { Put out.old at (reply_margin bits) result out.new }
+#[tactic(auto, unfolding(crate::specs::CaseLines::reply_margin))]
+fn put_margin(text: &mut Text<'_>, bits: u32)
+    requires { Room text.old (reply_margin bits) }
+    ensures { Printed text.old (reply_margin bits) text.new }
 {
-    let end = text::put_bytes(out, at, b" margin ");
-    put_signed(out, end, bits)
+    text.bytes(b" margin ");
+    put_signed(text, bits);
 }
 
 // The line of a call, and how many bytes of the buffer it takes. Ruled out: the ticket where the tick stands; a line that no
@@ -51,8 +55,10 @@ pub fn put_reply_line(out: &mut [u8; 128], call: &[u8], reply: &[u8; REPLY_SIZE]
     let ticket = u32_at(reply, REPLY_TICKET_AT);
     let tick = u32_at(reply, REPLY_TICK_AT);
     let margin = u32_at(reply, REPLY_MARGIN_AT);
-    let a = text::put_bytes(out, 0, call);
-    let b = put_figures(out, a, number, ticket, tick);
-    let c = put_margin(out, b, margin);
-    text::put_byte(out, c, b'\n')
+    let mut text = Text::new(out);
+    text.bytes(call);
+    put_figures(&mut text, number, ticket, tick);
+    put_margin(&mut text, margin);
+    text.byte(b'\n');
+    text.at
 }

@@ -1,32 +1,38 @@
 // What a long run draws, by a generator of 32 bits. specs/Draw.antt says what each is.
-ghost use Rattle.std.specs.Prelude.{◌≡◌, ◌<◌, ◌≤◌};
+ghost use Rattle.std.specs.Prelude.{◌≡◌, ◌+◌, ◌*◌, ◌%◌, ◌<◌, ◌≤◌};
 ghost use Rattle.model.specs.Limits.{max_stations};
 ghost use Rattle.trials.specs.Draw.{stepped, apart, picked, cost, costs, rank, ranks, most_cost, due_in, drawn_for, drawn_block};
 
 use image::block::order_block;
 use image::layout::BLOCK_SIZE;
+use model::Block;
+use std::array;
 
-fn wide(x: u32) -> u64
-    ensures { (result ≡ x) × (result < 4294967296) }
+// One step of a generator that multiplies and adds, in 32 bits.
+fn generated(s: u32, times: u32, plus: u32) -> u32
+    ensures { result ≡ (s * times + plus) % 4294967296 }
 {
-    x as u64
+    s.wrapping_mul(times).wrapping_add(plus)
 }
 
 // One step of the generator. Ruled out: a step that leaves the seed as it is; a seed of more than 32 bits.
+#[tactic(auto, unfolding(crate::specs::Draw::stepped))]
 pub fn step(s: u32) -> u32
     ensures { result ≡ stepped s }
 {
-    ((wide(s) * 1664525 + 1013904223) % 4294967296) as u32
+    generated(s, 1664525, 1013904223)
 }
 
 // Another place of its cycle.
+#[tactic(auto, unfolding(crate::specs::Draw::apart))]
 fn jump(s: u32) -> u32
     ensures { result ≡ apart s }
 {
-    ((wide(s) * 69069 + 1) % 4294967296) as u32
+    generated(s, 69069, 1)
 }
 
 // A number below k. Ruled out: the low bits of the seed, which repeat soon.
+#[tactic(auto, unfolding(crate::specs::Draw::picked))]
 pub fn pick(s: u32, k: u32) -> u32
     requires { 0 < k }
     ensures { (result ≡ picked s k) × (result < k) }
@@ -35,6 +41,7 @@ pub fn pick(s: u32, k: u32) -> u32
 }
 
 // The cost at place k, of the seed that is drawn for it.
+#[tactic(auto, unfolding(crate::specs::Draw::cost))]
 fn cost_of(s: u32, n: usize, most: u32, k: usize) -> u16
     requires { (0 < most) × (most < 65536) }
     ensures { result ≡ cost s n most k }
@@ -50,18 +57,18 @@ fn draw_costs(seed: u32, n: usize, most: u32) -> [u16; 8]
     requires { (0 < most) × (most < 65536) }
     ensures { result ≡ costs seed n most }
 {
-    let mut row = [0u16; 8];
+    // No `from_fn`: its closure would change the seed that it captures, and nothing would be known of the row.
+    let mut row = [0; 8];
     let mut s = seed;
-    let mut k = 0;
-    while k < 8 {
+    for k in 0..8 {
         s = step(s);
         row[k] = cost_of(s, n, most, k);
-        k += 1;
     }
     row
 }
 
 // The rank at place k, by the two bits of the seed that begin at `unit`.
+#[tactic(auto, unfolding(crate::specs::Draw::rank))]
 fn rank_of(s: u32, n: usize, k: usize, unit: u32) -> u8
     requires { 0 < unit }
     ensures { result ≡ rank s n k unit }
@@ -72,22 +79,19 @@ fn rank_of(s: u32, n: usize, k: usize, unit: u32) -> u8
     0
 }
 
+// Where the two bits of each rank begin.
+const UNITS: [u32; 8] = [
+    65536, 262144, 1048576, 4194304, 16777216, 67108864, 268435456, 1073741824,
+];
+
 // The ranks. Ruled out: a rank beyond the n stations; one rank for all of them.
 fn draw_ranks(s: u32, n: usize) -> [u8; 8]
     ensures { result ≡ ranks s n }
 {
-    [
-        rank_of(s, n, 0, 65536),
-        rank_of(s, n, 1, 262144),
-        rank_of(s, n, 2, 1048576),
-        rank_of(s, n, 3, 4194304),
-        rank_of(s, n, 4, 16777216),
-        rank_of(s, n, 5, 67108864),
-        rank_of(s, n, 6, 268435456),
-        rank_of(s, n, 7, 1073741824),
-    ]
+    array::from_fn(|k| rank_of(s, n, k, UNITS[k]))
 }
 
+#[tactic(auto, unfolding(crate::specs::Draw::most_cost))]
 fn most_cost(v: u32) -> u32
     ensures { (result ≡ most_cost v) × (0 < result) × (result < 65536) }
 {
@@ -103,6 +107,7 @@ fn most_cost(v: u32) -> u32
     6001
 }
 
+#[tactic(auto, unfolding(crate::specs::Draw::due_in))]
 fn draw_due_in(v: u32, s: u32) -> u32
     ensures { result ≡ due_in v s }
 {
@@ -118,6 +123,7 @@ fn draw_due_in(v: u32, s: u32) -> u32
     pick(s, 3000)
 }
 
+#[tactic(auto, unfolding(crate::specs::Draw::drawn_for))]
 fn drawn_for(v: u32, n: usize) -> usize
     requires { (1 ≤ n) × (n ≤ max_stations) }
     ensures { result ≡ drawn_for v n }
@@ -133,6 +139,7 @@ fn drawn_for(v: u32, n: usize) -> usize
 
 // The order block that a seed draws for a cabinet of n stations. Ruled out: the ranks drawn where the costs are, so that they
 // rise together; costs for another number of stations than ranks.
+#[tactic(auto, unfolding(crate::specs::Draw::drawn_block))]
 pub fn draw_order(s: u32, n: usize) -> [u8; BLOCK_SIZE]
     requires { (1 ≤ n) × (n ≤ max_stations) }
     ensures { result ≡ drawn_block s n }
@@ -144,5 +151,9 @@ pub fn draw_order(s: u32, n: usize) -> [u8; BLOCK_SIZE]
     let due_in = draw_due_in(pick(c, 8), jump(s));
     let ranks = draw_ranks(jump(b), stations);
     let costs = draw_costs(jump(a), stations, most_cost(pick(a, 64)));
-    order_block(due_in, ranks, costs)
+    order_block(Block {
+        due_in,
+        ranks,
+        costs,
+    })
 }

@@ -10,6 +10,7 @@ use lib.Dec.{ltb}
 use mir.Syntax.{w32}
 use mir.Val.{SFits}
 use borrow.Author.Tests.{lt-ltb, le-ltb, ltb-true, ltb-false}
+use Rattle.std.specs.Int.{int_min}
 use Rattle.model.specs.Lists.{upward}
 use Rattle.model.specs.Admission.{smallest}
 use Rattle.lists.proofs.Fills.{upward-more}
@@ -32,6 +33,28 @@ not_less (pos a) (negsuc b) (negsuc c) p q = refl
 not_less (negsuc a) (pos b) c p q = absurd (true≢false p)
 not_less (negsuc a) (negsuc b) (pos c) p q = absurd (true≢false q)
 not_less (negsuc a) (negsuc b) (negsuc c) p q = le-ltb c a (omega (arith, ltb-false b a p, ltb-false c b q))
+
+-- The library's smaller of two asks the other way round.
+only_one : (a b : ℤ) → lt_z a b ≡ true → lt_z b a ≡ false
+only_one (pos a) (pos b) p = le-ltb b a (omega (arith, ltb-true a b p))
+only_one (pos a) (negsuc b) p = absurd (true≢false (sym p))
+only_one (negsuc a) (pos b) p = refl
+only_one (negsuc a) (negsuc b) p = le-ltb a b (omega (arith, ltb-true b a p))
+
+neither : (a b : ℤ) → lt_z a b ≡ false → lt_z b a ≡ false → a ≡ b
+neither (pos a) (pos b) p q = ap pos (omega (arith, ltb-false a b p, ltb-false b a q))
+neither (pos a) (negsuc b) p q = absurd (true≢false q)
+neither (negsuc a) (pos b) p q = absurd (true≢false p)
+neither (negsuc a) (negsuc b) p q = ap negsuc (omega (arith, ltb-false b a p, ltb-false a b q))
+
+pub lesser : (a b : ℤ) → int_min a b ≡ smallest a (b ∷ [])
+unfolding smallest
+lesser a b = go (lt_z a b) (lt_z b a) refl refl
+  where
+    go : (s t : Bool) → lt_z a b ≡ s → lt_z b a ≡ t → cond (lt_z b a) b a ≡ cond (lt_z a b) a b
+    go true t p q = rw (only_one a b p, p)
+    go false true p q = rw (q, p)
+    go false false p q = rw (q, p) (neither a b p q)
 
 abbrev least : ℤ → ℤ → ℤ
 least a b = cond (lt_z a b) a b

@@ -7,6 +7,7 @@ use lib.IntN.{ℤ, pos}
 use lib.Signed.{lt_z}
 use mir.Syntax.{w32}
 use mir.Val.{SFits}
+use Rattle.std.specs.Prelude.{Ok, Err}
 use Rattle.model.specs.declared.Block.{Block}
 use Rattle.model.specs.Lists.{all}
 use Rattle.model.specs.State.{State}
@@ -16,9 +17,8 @@ use Rattle.model.specs.Admission.{arrival, joined_live, smallest, smallest_margi
 use Rattle.lists.proofs.Signs.{flip}
 use Rattle.call_laws.proofs.offers.Signs.{margin_sign, sign_smallest}
 use Rattle.admission.proofs.margins.LeastLaws.{smallest_joined, below_largest}
-use Rattle.admission.specs.declared.decision.Decision.{Decision}
-use Rattle.admission.specs.declared.decision.Decision.TheVariants.{Accepted, Late, Delaying}
-use Rattle.admission.specs.Decision.{decision_of}
+use Rattle.admission.specs.declared.decision.Decline.TheVariants.{Late, Delaying}
+use Rattle.admission.specs.Decision.{Decision, decision_of}
 use Rattle.admission.specs.OrderQuestions.{Decides}
 
 -- The decision by the two margins.
@@ -53,7 +53,7 @@ module _ (s : State) (b : Block) (others : ℤ) (others_are : others ≡ smalles
   unfolding own least decision_of state_questions first_no offer_answer quote_answer
   decides = go (lt_z own (pos 0)) (lt_z least (pos 0)) refl refl
     where
-      go : (t u : Bool) → lt_z own (pos 0) ≡ t → lt_z least (pos 0) ≡ u → Last (cond t (Late least) (cond u (Delaying least) (Accepted (record { tick = bound_tick s.n (arrival s b); margin = least }))))
+      go : (t u : Bool) → lt_z own (pos 0) ≡ t → lt_z least (pos 0) ≡ u → Last (cond t (Err (Late least)) (cond u (Err (Delaying least)) (Ok (record { tick = bound_tick s.n (arrival s b); margin = least }))))
       go true u p q = record { number_is = rw (own_time true p); offered = rw smallest_is; quoted = rw smallest_is }
       go false true p q = record { number_is = rw (own_time false p, live_time true p q); offered = rw smallest_is; quoted = rw smallest_is }
       go false false p q = record { number_is = rw (own_time false p, live_time false p q); offered = rw smallest_is; quoted = rw smallest_is }

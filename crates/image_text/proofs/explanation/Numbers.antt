@@ -2,7 +2,7 @@
 use mathlib.Core.Path.{◌≡◌, refl, sym, ◌∙◌}
 use mathlib.Core.Bool.{Bool, true, false}
 use mathlib.Core.List.{List, [], ◌∷◌, ◌++◌, append-nil}
-use Prim.Native.Nat.{ℕ}
+use Prim.Native.Nat.{ℕ, ◌<◌}
 use native.Mathlib.Omega.{arith}
 use lib.ListN.{length}
 use lib.Dec.{eqb}
@@ -12,6 +12,9 @@ use Rattle.model.specs.Image.{marked, decode}
 use Rattle.model.specs.Soundness.{sound}
 use Rattle.model.specs.Questions.{◌else◌, first_no}
 use Rattle.model.specs.Calls.{length_question, image_questions}
+use Rattle.soundness.specs.declared.questions.Refusal.{Refusal}
+use Rattle.soundness.specs.declared.questions.Refusal.TheVariants.{ReplyLength, ImageLength, Mark, Unsound, BlockLength, Clock, Stations, Format, Speed}
+use Rattle.soundness.specs.Questions.{number_of}
 use Rattle.image_text.specs.Report.{figure_line, state_report, clause_line, report}
 use Rattle.image_text.specs.FirstFlaw.{first_flaw}
 use Rattle.image_text.specs.Explanation.{flaw_name, explained}
@@ -51,3 +54,31 @@ module _ (image : List ℕ) (number : ℕ) (is : number ≡ first_no (image_ques
   pub others_alone : (number ≡ 0 → ⊥) → (number ≡ 4 → ⊥) → explained image ≡ figure_line "number " number
   unfolding explained report
   others_alone p q = rw (← is, ne_eqb number 0 p, ne_eqb number 4 q) (append-nil (figure_line "number " number))
+
+-- Of what may be refused, question 4 alone has that number, and none has 0.
+pub four_unsound : (refusal : Refusal) → number_of refusal ≡ 4 → refusal ≡ Unsound
+four_unsound ReplyLength e = absurd (omega arith)
+four_unsound ImageLength e = absurd (omega arith)
+four_unsound Mark e = absurd (omega arith)
+four_unsound Unsound e = refl
+four_unsound BlockLength e = absurd (omega arith)
+four_unsound Clock e = absurd (omega arith)
+four_unsound Stations e = absurd (omega arith)
+four_unsound Format e = absurd (omega arith)
+four_unsound Speed e = absurd (omega arith)
+
+pub never_zero : (refusal : Refusal) → 0 < number_of refusal
+never_zero ReplyLength = omega arith
+never_zero ImageLength = omega arith
+never_zero Mark = omega arith
+never_zero Unsound = omega arith
+never_zero BlockLength = omega arith
+never_zero Clock = omega arith
+never_zero Stations = omega arith
+never_zero Format = omega arith
+never_zero Speed = omega arith
+
+-- Bytes of another length.
+pub other_length : (image : List ℕ) → (length image ≡ image_size → ⊥) → 2 ≡ first_no (image_questions image)
+unfolding image_questions length_question first_no
+other_length image h = rw (ne_eqb (length image) image_size h)

@@ -1,42 +1,51 @@
 -- The room that the parts of a report take. A sound image's state is in range, since an image is bytes.
-use mathlib.Core.Path.{◌≡◌, ap}
+use mathlib.Core.Path.{◌≡◌}
 use mathlib.Core.Bool.{true}
-use mathlib.Core.List.{List}
-use Prim.Native.Nat.{ℕ, ◌+◌, ◌-◌, ◌≤◌, ◌<◌}
+use mathlib.Core.List.{List, []}
+use Rattle.std.proofs.Common.{Option, Some, None}
+use Prim.Native.Nat.{ℕ, ◌≤◌, ◌<◌}
 use native.Mathlib.Omega.{arith}
-use lib.ListN.{length, take, drop, length-append, length-take}
+use lib.ListN.{length, length-append}
 use Rattle.model.specs.Limits.{max_stations, max_live}
-use Rattle.model.specs.Layout.{image_size}
 use Rattle.model.specs.Image.{decode}
 use Rattle.model.specs.Soundness.{sound}
 use Rattle.text.specs.Decimal.{decimal}
 use Rattle.text.proofs.Decimals.{length-decimal}
-use Rattle.lists.specs.Stored.{Put}
-use Rattle.image.specs.Pipeline.{padded, Readable}
-use Rattle.image.proofs.pipeline.TwoForms.{live_decoded}
+use Rattle.image.specs.Pipeline.{padded}
 use Rattle.image_laws.specs.InRange.{byte_limit, word_limit, Below}
 use Rattle.image_laws.proofs.Read.{decode-byte-ranks}
 use Rattle.image_laws.proofs.Sound.{sound_gives}
 use Rattle.image_text.specs.Report.{line_feed, figure_line, state_report, clause_line}
 use Rattle.image_text.proofs.report.Lengths.{length_clause}
 use Rattle.image_text.proofs.report.Room.{state_room}
-use Rattle.image_text.specs.declared.explanation.Span.{Span}
-use Rattle.image_text.specs.Explanation.{names, Named}
+use Rattle.image_text.specs.declared.first_flaw.Flaw.{Flaw}
+use Rattle.image_text.specs.declared.first_flaw.Flaw.TheVariants.{StationCount, LiveCount, Clock, ZeroBytes, UnusedRecords, Tickets, Acceptance, Due, Station, Costs, Maxima, Sum, OnTime, Beyond, Services}
+use Rattle.image_text.specs.Explanation.{name_of, flaw_name}
 
 pub number_room : (number : ℕ) → number < word_limit → length (figure_line "number " number) ≤ 18
 number_room number h = omega (arith, length-append (decimal number) line_feed, length-decimal 9 number (omega arith))
 
--- The place after the line of the number, and the room for the line of a clause.
-pub number_end : {l m : List ℕ} {number end : ℕ} → Put l 0 (figure_line "number " number) end m → number < word_limit → end ≤ 18
-number_end {number = number} p h = omega (arith, p.place, number_room number h)
+-- No name of a clause has more than 14 bytes.
+name_short : (flaw : Flaw) → length (name_of flaw) ≤ 14
+name_short StationCount = omega arith
+name_short LiveCount = omega arith
+name_short Clock = omega arith
+name_short ZeroBytes = omega arith
+name_short UnusedRecords = omega arith
+name_short Tickets = omega arith
+name_short Acceptance = omega arith
+name_short Due = omega arith
+name_short Station = omega arith
+name_short Costs = omega arith
+name_short Maxima = omega arith
+name_short Sum = omega arith
+name_short OnTime = omega arith
+name_short Beyond = omega arith
+name_short Services = omega arith
 
--- The part of the names that is lent is the name.
-pub named_part : {name : List ℕ} {r : Span} → Named name r → take ((r.0 + r.1) - r.0) (drop r.0 names) ≡ name
-named_part {name} {r} n = let e : (r.0 + r.1) - r.0 ≡ r.1 = omega arith in rw e n.is
-
-pub clause_room : {name : List ℕ} {r : Span} → Named name r → length (clause_line name) ≤ 22
-clause_room {name} {r} n =
-    omega (arith, length_clause name, ap length n.is, length-take r.1 (drop r.0 names), n.short)
+pub clause_room : (flaw : Option Flaw) → length (clause_line (flaw_name flaw)) ≤ 22
+clause_room None = omega (arith, length_clause [])
+clause_room (Some flaw) = omega (arith, length_clause (name_of flaw), name_short flaw)
 
 -- What a sound image says can be held by the code's state, and be printed.
 pub record Held (image : List ℕ) : Type 0 where
@@ -49,6 +58,3 @@ unfolding padded
 sound_held image bytes e =
     let g = sound_gives image bytes e in
     record { stations = g.facts.n_high; live = g.facts.live; room = state_room (decode image) g.in_range (decode-byte-ranks image bytes) g.facts.n_high }
-
-pub readable : (image : List ℕ) → length image ≡ image_size → Held image → Readable image
-readable image whole h = record { whole = whole; room = omega (arith, h.live, live_decoded image) }

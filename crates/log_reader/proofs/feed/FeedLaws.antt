@@ -24,9 +24,9 @@ unfolding fed_all
 fed_none f = refl
 
 -- One byte more of a chunk.
-pub fed_more : (f : Fed) (chunk : List ℕ) (i : ℕ) {g h : Fed} → i < length chunk → g ≡ fed_all f (take i chunk) → h ≡ fed_byte g (get_or chunk i 0) → h ≡ fed_all f (take (i + 1) chunk)
+pub fed_more : (f : Fed) (chunk : List ℕ) (i : ℕ) {g : Fed} → i < length chunk → g ≡ fed_all f (take i chunk) → (h : Fed) → h ≡ fed_byte g (get_or chunk i 0) → h ≡ fed_all f (take (i + 1) chunk)
 unfolding fed_all
-fed_more f chunk i l before now =
+fed_more f chunk i l before h now =
     rw (add-one, take-suc chunk i 0 l, fed_append f (take i chunk) (get_or chunk i 0 ∷ []), ← before) now
 
 module _ (rerun : Rerun) (pending : List ℕ) (held : ℕ) (image : List ℕ) where

@@ -34,7 +34,7 @@ module _ (r : Rerun) where
           take_all r.stations r.busy (omega arith) ∙ sym (take_all n r.busy (omega arith)))
 
 module _ (s : Reading) where
-  abbrev unfinished : Bool
+  abbrev pub unfinished : Bool
   unfinished = not (is_zero s.held) || eqb s.rerun.line 1
 
   pub prints_refused : (s.rerun.refused ≡ 0 → ⊥) → printed s ≡ refused_line s.rerun.refused

@@ -1,27 +1,20 @@
 -- The length of each text by the lengths of its parts, and the lines of the stations as rows that are given by their places. By taking `++` apart.
 use mathlib.Core.Path.{◌≡◌, ap}
-use mathlib.Core.List.{List}
+use mathlib.Core.List.{List, ◌++◌}
 use Prim.Native.Nat.{ℕ, ◌+◌, ◌≤◌}
 use lib.ListN.{length, get_or, take, length-append}
 use Rattle.model.specs.Lists.{concat, upward}
+use Rattle.text.specs.Ascii.{ascii}
 use Rattle.text.specs.Decimal.{decimal}
 use Rattle.text.proofs.Rows.{numbered-rows}
 use Rattle.log_model.specs.Rounding.{thousandths}
-use Rattle.log_model.specs.Output.{refused_line, differs_line, station_line, same_lines}
-use Rattle.log_reader.specs.Printed.{station_start, station_lines}
+use Rattle.log_model.specs.Output.{station_line, same_lines}
+use Rattle.log_reader.specs.Printed.{station_lines}
 
-pub length-refused : (k : ℕ) → length (refused_line k) ≡ 11 + length (decimal k) + 1
-unfolding refused_line
-length-refused k = simp length-append
+pub length_numbered : (words : List ℕ) (k : ℕ) → length (words ++ decimal k ++ ascii "\n") ≡ length words + length (decimal k) + 1
+length_numbered words k = simp length-append
 
-pub length_differs : (k : ℕ) → length (differs_line k) ≡ 8 + length (decimal k) + 1
-unfolding differs_line
-length_differs k = simp length-append
-
-pub length_start : (k busy : ℕ) → length (station_start k busy) ≡ length (decimal k) + 1 + length (decimal busy) + 1
-length_start k busy = simp length-append
-
-pub length_station : (all k busy : ℕ) → length (station_line all k busy) ≡ length (station_start k busy) + length (decimal (thousandths busy all)) + 1
+pub length_station : (all k busy : ℕ) → length (station_line all k busy) ≡ length (decimal k) + 1 + length (decimal busy) + 1 + length (decimal (thousandths busy all)) + 1
 unfolding station_line
 length_station all k busy = simp length-append
 

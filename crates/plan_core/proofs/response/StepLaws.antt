@@ -1,22 +1,24 @@
--- What the first tasks but one add to R: of no task, of one more, and as R rises.
+-- What all tasks but one add to R: of no row, of one more, and as R rises.
 use mathlib.Core.Path.{◌≡◌, refl, sym, ap, ◌∙◌}
-use mathlib.Core.List.{List, [], ◌∷◌, ◌++◌}
-use mathlib.Core.Logic.{⊎_elim, ◌⊎◌, inl, inr}
+use mathlib.Core.Bool.{true}
+use mathlib.Core.List.{List, [], ◌∷◌, ◌++◌, map, map-append}
 use Prim.Native.Nat.{ℕ, zero, suc, ◌+◌, ◌-◌, ◌*◌, ◌≤◌, ◌<◌}
 use native.Mathlib.Nat.{mul-le-mul_right}
 use native.Mathlib.Numerals.{add-one}
 use native.Mathlib.Omega.{arith}
-use lib.ListN.{length, get_or}
-use lib.Dec.{eqb}
-use borrow.Author.Tests.{eqb-true, eqb-false}
-use Rattle.model.specs.Lists.{total, upward}
-use Rattle.lists.proofs.Fills.{length-upward, upward-more}
-use Rattle.lists.proofs.Tests.{either, total_snoc}
+use lib.ListN.{length, get_or, take, length-map}
+use lib.Seq.{take-suc, length-take-le}
+use Rattle.model.specs.Lists.{total, all}
+use Rattle.lists.proofs.Tests.{and_both, total_snoc}
 use Rattle.plan_model.specs.Limits.{max_period}
 use Rattle.plan_model.specs.Response.{releases, others}
 use Rattle.plan_model.proofs.Releases.{releases_most, releases_rise}
 use Rattle.plan_model.proofs.Sequence.{Rises}
-use Rattle.plan_core.specs.Response.{share_at, interference_of, step_of, Ranged}
+use Rattle.plan_model.proofs.Steps.{all_others, others_map}
+use Rattle.plan_core.specs.declared.table.Row.{Row}
+use Rattle.plan_core.specs.Ranged.{ranged}
+use Rattle.plan_core.specs.Response.{share_of, interference_of, step_of}
+use Rattle.plan_core.proofs.table.Rows.{ranges}
 
 pub few_releases : (R d p : ℕ) → 1 ≤ d → d ≤ p → R < max_period → releases R d p ≤ max_period - 1
 few_releases R d p low high r = releases_most R (max_period - 1) d p (omega arith) high (omega arith) (omega arith)
@@ -36,41 +38,48 @@ others_more [] x (suc t) ne = refl
 others_more (y ∷ l) x zero ne = refl
 others_more (y ∷ l) x (suc t) ne = ap (λ (m : List ℕ). y ∷ m) (others_more l x t (λ e. ne (ap suc e)))
 
-same_or_not : (a b : ℕ) → (a ≡ b) ⊎ (a ≡ b → ⊥)
-same_or_not a b = either (λ t. (a ≡ b) ⊎ (a ≡ b → ⊥)) (eqb a b) (λ e. inl (eqb-true a b e)) (λ e. inr (eqb-false a b e))
-
-module _ (periods deadlines costs : List ℕ) (t : ℕ) where
-  pub none_add : (R : ℕ) → 0 ≡ interference_of periods deadlines costs 0 t R
-  unfolding interference_of upward others total
+module _ (rows : List Row) (t : ℕ) where
+  pub none_add : (R : ℕ) → 0 ≡ interference_of [] t R
+  unfolding interference_of others total
   none_add R = refl
 
-  pub own_adds : (i R : ℕ) → i ≡ t → interference_of periods deadlines costs (i + 1) t R ≡ interference_of periods deadlines costs i t R
+  -- The shares of the first rows, and one more.
+  shares_next : (none : Row) (i R : ℕ) → i < length rows → map (share_of R) (take (i + 1) rows) ≡ map (share_of R) (take i rows) ++ (share_of R (get_or rows i none) ∷ [])
+  shares_next none i R h = rw (add-one i, take-suc rows i none h) (map-append (share_of R) (take i rows) (get_or rows i none ∷ []))
+
+  so_many : (i R : ℕ) → i < length rows → length (map (share_of R) (take i rows)) ≡ i
+  so_many i R h = length-map (take i rows) (share_of R) ∙ length-take-le i rows (omega arith)
+
+  pub own_adds : (none : Row) (i R : ℕ) → i < length rows → i ≡ t → interference_of (take (i + 1) rows) t R ≡ interference_of (take i rows) t R
   unfolding interference_of
-  own_adds i R e =
-      let f = share_at periods deadlines costs R in
-      rw (upward-more i f, others_same (upward 0 i f) (f i) t (length-upward 0 i f ∙ e))
+  own_adds none i R h e =
+      rw (shares_next none i R h, others_same (map (share_of R) (take i rows)) (share_of R (get_or rows i none)) t (so_many i R h ∙ e))
 
-  pub other_adds : (i R : ℕ) → (i ≡ t → ⊥) → interference_of periods deadlines costs (i + 1) t R ≡ interference_of periods deadlines costs i t R + releases R (get_or deadlines i 0) (get_or periods i 0) * get_or costs i 0
-  unfolding interference_of share_at
-  other_adds i R ne =
-      let f = share_at periods deadlines costs R in
-      rw (upward-more i f, others_more (upward 0 i f) (f i) t (λ e. ne (sym (length-upward 0 i f) ∙ e)), total_snoc (others t (upward 0 i f)) (f i))
+  pub other_adds : (none : Row) (i R : ℕ) → i < length rows → (i ≡ t → ⊥) → interference_of (take (i + 1) rows) t R ≡ interference_of (take i rows) t R + share_of R (get_or rows i none)
+  unfolding interference_of
+  other_adds none i R h ne =
+      let so_far = map (share_of R) (take i rows) in
+      rw (shares_next none i R h, others_more so_far (share_of R (get_or rows i none)) t (λ e. ne (sym (so_many i R h) ∙ e))) (total_snoc (others t so_far) (share_of R (get_or rows i none)))
 
-  -- No task adds less to a larger R.
-  interference_rises : (count R S : ℕ) → ((k : ℕ) → k < count → 1 ≤ get_or periods k 0) → R ≤ S → interference_of periods deadlines costs count t R ≤ interference_of periods deadlines costs count t S
-  interference_rises zero R S low h = omega (arith, none_add R, none_add S)
-  interference_rises (suc i) R S low h =
-      let before : interference_of periods deadlines costs i t R ≤ interference_of periods deadlines costs i t S = interference_rises i R S (λ k l. low k (omega arith)) h in
-      rw (← add-one i)
-      (⊎_elim
-      (λ e. omega (arith, own_adds i R e, own_adds i S e))
-      (λ ne. omega (arith, other_adds i R ne, other_adds i S ne, mul-le-mul_right (get_or costs i 0) (releases_rise R S (get_or deadlines i 0) (get_or periods i 0) (low i (omega arith)) h)))
-      (same_or_not i t))
+-- No row in range adds less to a larger R.
+share_rises : (r : Row) (R S : ℕ) → ranged r ≡ true → R ≤ S → share_of R r ≤ share_of S r
+unfolding share_of
+share_rises r R S e h =
+    let in_range = ranges r e in
+    mul-le-mul_right r.cost (releases_rise R S r.deadline r.period (omega arith) h)
 
-  pub step_rises : (count base : ℕ) → Ranged periods deadlines costs count → Rises (step_of periods deadlines costs count t base)
-  unfolding step_of
-  step_rises count base ranged R S h = omega (arith, interference_rises count R S (λ k l. omega (arith, ranged.deadline_low k l, ranged.deadline_high k l)) h)
+shares_rise : (rows : List Row) (R S : ℕ) → all ranged rows ≡ true → R ≤ S → total (map (share_of R) rows) ≤ total (map (share_of S) rows)
+unfolding all total
+shares_rise [] R S e h = omega arith
+shares_rise (r ∷ rows) R S e h =
+    let both = and_both (ranged r) (all ranged rows) e in
+    omega (arith, share_rises r R S both.0 h, shares_rise rows R S both.1 h)
 
-  pub step_from : (count base R : ℕ) → base ≤ step_of periods deadlines costs count t base R
-  unfolding step_of
-  step_from count base R = omega arith
+pub step_rises : (rows : List Row) (t base : ℕ) → all ranged rows ≡ true → Rises (step_of rows t base)
+unfolding step_of interference_of
+step_rises rows t base e R S h =
+    rw (← others_map (share_of R) t rows, ← others_map (share_of S) t rows) (let r : total (map (share_of R) (others t rows)) ≤ total (map (share_of S) (others t rows)) = shares_rise (others t rows) R S (all_others ranged t rows e) h in omega arith)
+
+pub step_from : (rows : List Row) (t base R : ℕ) → base ≤ step_of rows t base R
+unfolding step_of
+step_from rows t base R = omega arith

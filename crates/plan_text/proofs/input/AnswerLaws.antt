@@ -8,6 +8,7 @@ use native.Mathlib.Omega.{arith}
 use lib.Dec.{eqb, leb}
 use lib.ListN.{length, drop, replicate, length-map}
 use lib.Seq.{take-append_seam}
+use Rattle.std.specs.Prelude.{Result, Ok, Err}
 use Rattle.model.specs.Limits.{max_stations}
 use Rattle.model.specs.Lists.{within, all}
 use Rattle.model.specs.Questions.{◌else◌, first_no}
@@ -24,22 +25,23 @@ use Rattle.lists.proofs.Tests.{and_both}
 use Rattle.lists.proofs.Questions.{gives_other, decides, three_pass}
 use Rattle.lists.proofs.Questions as questions
 use Rattle.plan_text.specs.Padded.{padded}
+use Rattle.plan_text.specs.declared.answer.Form.{Form}
 use Rattle.plan_text.specs.declared.answer.Form.TheVariants.{TooLong, NotStations, NotTasks}
-use Rattle.plan_text.specs.declared.answer.Parsed.{Parsed}
-use Rattle.plan_text.specs.Answer.{number_of, table, asked}
+use Rattle.plan_text.specs.declared.answer.TaskSet.{TaskSet}
+use Rattle.plan_text.specs.Answer.{number_of, number_given, table, asked}
 use Rattle.plan_text.specs.Parsed.{parsed}
 use Rattle.plan_text.specs.Accepted.{Accepted}
 
 -- Three answers, and what is said where all are "yes".
-abbrev three_asked : Bool → Bool → Bool → Parsed → Parsed
+abbrev three_asked : Bool → Bool → Bool → Result TaskSet Form → Result TaskSet Form
 three_asked a b c rest = asked a TooLong (asked b NotStations (asked c NotTasks rest))
 
-three_number : (a b c : Bool) (n : ℕ) (tasks : List Task) → number_of (three_asked a b c (table n tasks)).form ≡ first_no ((a else 15) ∷ (b else 16) ∷ (c else 17) ∷ [])
-unfolding first_no table
-three_number true true true n tasks = refl
-three_number true true false n tasks = refl
-three_number true false c n tasks = refl
-three_number false b c n tasks = refl
+three_number : (a b c : Bool) (set : TaskSet) → number_given (three_asked a b c (Ok set)) ≡ first_no ((a else 15) ∷ (b else 16) ∷ (c else 17) ∷ [])
+unfolding first_no
+three_number true true true set = refl
+three_number true true false set = refl
+three_number true false c set = refl
+three_number false b c set = refl
 
 -- What the questions say of N and of the tasks.
 stations_within : (ls : List (List ℕ)) (input : List ℕ) → lines input ≡ ls → is_stations ls ≡ true → within 1 max_stations (stations_of input) ≡ true
@@ -87,21 +89,30 @@ has_stations input = is_stations (lines input)
 abbrev has_tasks : List ℕ → Bool
 has_tasks input = is_task_lines (stations_of input) (drop 1 (parts line_feed input))
 
-module _ (input : List ℕ) {answer : Parsed} (is : answer ≡ parsed input) where
-  pub answer_number : number_of answer.form ≡ first_no (form_questions input)
+module _ (input : List ℕ) where
+  pub answer_number : number_given (parsed input) ≡ first_no (form_questions input)
   unfolding parsed form_questions
-  answer_number = rw is (three_number (is_short input) (has_stations input) (has_tasks input) (stations_of input) (tasks_of input))
+  answer_number = three_number (is_short input) (has_stations input) (has_tasks input) (table (stations_of input) (tasks_of input))
+
+  -- No question has the number 0.
+  some_number : (form : Form) → number_of form ≡ 0 → ⊥
+  some_number TooLong e = omega arith
+  some_number NotStations e = omega arith
+  some_number NotTasks e = omega arith
 
   -- A "no" is the program's number.
-  pub declined : (number_of answer.form ≡ 0 → ⊥) → input_number input ≡ number_of answer.form
+  pub declined : (form : Form) → Err form ≡ parsed input → input_number input ≡ number_of form
   unfolding input_number input_questions
-  declined some = sym (decides (form_questions input) _ (number_of answer.form) answer_number some)
+  declined form is = sym (decides (form_questions input) _ (number_of form) (rw (← is) at answer_number) (some_number form))
 
-  module _ (passed : number_of answer.form ≡ 0) where
+  module _ {set : TaskSet} (is : Ok set ≡ parsed input) where
+    passed : 0 ≡ first_no (form_questions input)
+    passed = rw (← is) at answer_number
+
     answers : (is_short input ≡ true) × (has_stations input ≡ true) × (has_tasks input ≡ true)
     unfolding form_questions all gives_other
     answers =
-        three_pass (is_short input) (has_stations input) (has_tasks input) 15 16 17 (questions.passed (form_questions input) refl (sym answer_number ∙ passed))
+        three_pass (is_short input) (has_stations input) (has_tasks input) 15 16 17 (questions.passed (form_questions input) refl (sym passed))
 
     stations_fit : within 1 max_stations (stations_of input) ≡ true
     stations_fit = stations_within (lines input) input refl answers.1
@@ -109,11 +120,13 @@ module _ (input : List ℕ) {answer : Parsed} (is : answer ≡ parsed input) whe
     count_fits : within 1 max_tasks (length (tasks_of input)) ≡ true
     count_fits = tasks_within input answers.2
 
-    is_table : answer ≡ table (stations_of input) (tasks_of input)
+    pub is_table : set ≡ table (stations_of input) (tasks_of input)
     unfolding parsed
-    is_table = is ∙ rw (answers.0, answers.1, answers.2)
+    is_table =
+        let whole : Ok set ≡ Ok (table (stations_of input) (tasks_of input)) = is ∙ rw (answers.0, answers.1, answers.2) in
+        cc
 
-    pub accepted : Accepted input answer
+    pub accepted : Accepted input set
     accepted = rw is_table (table_accepted input stations_fit count_fits)
 
     -- Without a "no" so far, the program's number is plan's.

@@ -1,125 +1,139 @@
 -- The lines of tasks, one after the other: question 17. A loop that stops before the end has found the reason why the parts are no table.
-use mathlib.Core.Path.{◌≡◌, ap, ◌∙◌}
-use mathlib.Core.Bool.{true, false, ◌&&◌, ◌||◌}
-use mathlib.Core.List.{List, [], ◌∷◌, map}
-use Prim.Native.Nat.{ℕ, ◌+◌, ◌-◌, ◌≤◌, ◌<◌}
+use mathlib.Core.Path.{◌≡◌, refl, sym, ap, ◌∙◌}
+use mathlib.Core.Bool.{true, false, ◌&&◌}
+use mathlib.Core.List.{List, [], ◌∷◌, ◌++◌, map, map-append, append_assoc, append-nil}
+use Prim.Native.Nat.{ℕ, suc, ◌+◌, ◌-◌, ◌≤◌, ◌<◌}
 use native.Mathlib.Omega.{arith}
 use lib.Dec.{eqb, leb}
-use lib.ListN.{length, set, take, drop, replicate, length-drop, length-map, drop_of_length-le}
-use lib.Seq.{length-take-le}
-use borrow.Author.Tests.{eqb-true, eqb-false, ne_eqb, le-leb, lt-leb}
-use Rattle.model.specs.Lists.{within, all}
+use lib.ListN.{length, set, replicate, length-append, length-map}
+use lib.Seq.{append_snoc, set_at}
+use borrow.Author.Tests.{eq-eqb, ne_eqb, le-leb, lt-leb}
+use Rattle.std.specs.Prelude.{Result, Ok, Err}
+use Rattle.model.specs.Lists.{concat, within, all}
+use Rattle.lists.proofs.Tests.{and_true, and_false, all_append, all_more}
 use Rattle.plan_model.specs.declared.Task.{Task}
 use Rattle.plan_model.specs.Limits.{max_tasks}
 use Rattle.plan_model.specs.Records.{blank}
-use Rattle.text.specs.Parts.{line_feed, parts, last_of, lines_of}
 use Rattle.plan_model.specs.Input.{is_task_line, is_task_lines, task_at}
-use Rattle.lists.proofs.Tests.{either, and_false, both_false}
-use Rattle.plan_text.specs.declared.answer.Form.TheVariants.{Passed, NotTasks}
-use Rattle.plan_text.specs.Answer.{table, refused}
+use Rattle.text.specs.Parts.{line_feed, parts, last_of, lines_of}
+use Rattle.text.proofs.Joined.{cut}
+use Rattle.text.proofs.parts.PartLaws.{parts_some}
+use Rattle.plan_text.specs.declared.answer.Form.{Form}
+use Rattle.plan_text.specs.declared.answer.Form.TheVariants.{NotTasks}
+use Rattle.plan_text.specs.Padded.{padded}
+use Rattle.plan_text.specs.Answer.{table}
 use Rattle.plan_text.specs.TaskLines.{table_of}
-use Rattle.text.proofs.parts.PartLaws.{parts_from, Ended, from_inside, from_past, parts_some}
-use Rattle.plan_text.proofs.words.ReadingLaws.{Reading, reading_none, reading_part, reading_more, line_counts, line_fails, last_part, lines_count, lines_pass, lines_stored}
 
--- Parts are no table by what follows the last line feed, by how many lines there are, or by what one of them says.
-module _ (n : ℕ) (ps : List (List ℕ)) where
-  no_table : is_task_lines n ps ≡ false → refused NotTasks ≡ table_of n ps
+-- The lines and the last of some parts that others follow.
+last_append : (seen ps : List (List ℕ)) → 0 < length ps → last_of (seen ++ ps) ≡ last_of ps
+unfolding last_of
+last_append [] ps h = refl
+last_append (p ∷ []) [] h = absurd (omega arith)
+last_append (p ∷ []) (q ∷ ps) h = refl
+last_append (p ∷ q ∷ seen) ps h = last_append (q ∷ seen) ps h
+
+lines_append : (seen ps : List (List ℕ)) → 0 < length ps → lines_of (seen ++ ps) ≡ seen ++ lines_of ps
+unfolding lines_of
+lines_append [] ps h = refl
+lines_append (p ∷ []) [] h = absurd (omega arith)
+lines_append (p ∷ []) (q ∷ ps) h = refl
+lines_append (p ∷ q ∷ seen) ps h = ap (λ (l : List (List ℕ)). p ∷ l) (lines_append (q ∷ seen) ps h)
+
+one_line : (line : List ℕ) (ps : List (List ℕ)) → 0 < length ps → lines_of (line ∷ ps) ≡ line ∷ lines_of ps
+one_line line ps h = lines_append (line ∷ []) ps h
+
+-- A text of one part is that part.
+pub alone : (separator : ℕ) (text part : List ℕ) → parts separator text ≡ part ∷ [] → text ≡ part
+unfolding concat
+alone separator text part e =
+    let c = cut separator text in
+    let both : c.first ∷ c.later ≡ part ∷ [] = sym c.split ∙ e in
+    let first : c.first ≡ part = cc in
+    let later : c.later ≡ [] = cc in
+    c.whole ∙ rw (first, later) (append-nil part)
+
+-- The lines so far have the form, and their tasks stand at the front of the array; `left` are the parts after them.
+pub record Reading (n : ℕ) (ps : List (List ℕ)) (tasks : List Task) (count : ℕ) (left : List (List ℕ)) : Type 0 where
+  pub seen : List (List ℕ)
+  pub split : ps ≡ seen ++ left
+  pub form : all (is_task_line n) seen ≡ true
+  pub many : length seen ≡ count
+  pub read : tasks ≡ padded max_tasks blank (map task_at seen)
+  pub few : count ≤ max_tasks
+
+pub reading_none : (n : ℕ) (ps : List (List ℕ)) → Reading n ps (replicate max_tasks blank) 0 ps
+unfolding all padded
+reading_none n ps = record { seen = []; split = refl; form = refl; many = refl; read = refl; few = omega arith }
+
+module _ {n : ℕ} {ps : List (List ℕ)} {tasks : List Task} {count : ℕ} {left : List (List ℕ)} (r : Reading n ps tasks count left) where
+  -- Parts are no table by what follows the last line feed, by how many lines there are, or by what one of them says.
+  no_table : is_task_lines n ps ≡ false → Err NotTasks ≡ table_of n ps
   unfolding table_of
   no_table e = rw e
 
-  by_last : (length (last_of ps) ≡ 0 → ⊥) → refused NotTasks ≡ table_of n ps
+  by_last : (length (last_of ps) ≡ 0 → ⊥) → Err NotTasks ≡ table_of n ps
   unfolding is_task_lines
   by_last e = no_table (rw (ne_eqb (length (last_of ps)) 0 e))
 
-  by_count : within 1 max_tasks (length (lines_of ps)) ≡ false → refused NotTasks ≡ table_of n ps
+  by_count : within 1 max_tasks (length (lines_of ps)) ≡ false → Err NotTasks ≡ table_of n ps
   unfolding is_task_lines
   by_count e = no_table (rw (e, and_false (eqb (length (last_of ps)) 0)))
 
-  by_line : all (is_task_line n) (lines_of ps) ≡ false → refused NotTasks ≡ table_of n ps
+  by_line : all (is_task_line n) (lines_of ps) ≡ false → Err NotTasks ≡ table_of n ps
   unfolding is_task_lines
   by_line e = no_table (rw (e, and_false (eqb (length (last_of ps)) 0 && within 1 max_tasks (length (lines_of ps)))))
 
--- The first lines have the form, and their tasks stand in the array; the rest of the input begins at a place.
-pub record Rows (n : ℕ) (input : List ℕ) (start : ℕ) (tasks : List Task) (count at : ℕ) : Type 0 where
-  pub reading : Reading (parts line_feed (drop start input)) (is_task_line n) task_at max_tasks blank tasks (parts_from line_feed input at) count
-  pub place : at ≤ length input
-  pub few : count ≤ max_tasks
+  -- A line feed ends the next line.
+  module _ (line text : List ℕ) (next : left ≡ line ∷ parts line_feed text) where
+    lines_are : lines_of ps ≡ r.seen ++ (line ∷ lines_of (parts line_feed text))
+    lines_are = ap lines_of (r.split ∙ ap (λ (l : List (List ℕ)). r.seen ++ l) next) ∙ lines_append r.seen (line ∷ parts line_feed text) (omega arith) ∙ rw (one_line line (parts line_feed text) (parts_some line_feed text))
 
-pub rows_none : (n : ℕ) (input : List ℕ) (start : ℕ) → start ≤ length input → Rows n input start (replicate max_tasks blank) 0 start
-rows_none n input start h =
-    record {
-      reading = rw (from_inside line_feed input start h) (reading_none (parts line_feed (drop start input)) (is_task_line n) task_at max_tasks blank);
-      place = h;
-      few = omega arith;
-    }
+    pub other_line : is_task_line n line ≡ false → Err NotTasks ≡ table_of n ps
+    unfolding all
+    other_line e = by_line (rw (lines_are, all_append (is_task_line n) r.seen (line ∷ lines_of (parts line_feed text)), e, and_false (all (is_task_line n) r.seen)))
 
-module _ {n : ℕ} {input : List ℕ} {start : ℕ} {tasks : List Task} {count at : ℕ} (r : Rows n input start tasks count at) where
-  abbrev ps : List (List ℕ)
-  ps = parts line_feed (drop start input)
+    pub full : max_tasks ≤ count → Err NotTasks ≡ table_of n ps
+    full e =
+        let many : max_tasks < length (lines_of ps) = omega (arith, r.many, ap length lines_are, length-append r.seen (line ∷ lines_of (parts line_feed text))) in
+        by_count (rw (lt-leb (length (lines_of ps)) max_tasks many, and_false (leb 1 (length (lines_of ps)))))
 
-  module _ {end : ℕ} (p : Ended line_feed input at end) where
-    abbrev line : List ℕ
-    line = take (end - at) (drop at input)
+    pub reading_more : {task : Task} → is_task_line n line ≡ true → task ≡ task_at line → count < max_tasks → Reading n ps (set tasks count task) (count + 1) (parts line_feed text)
+    unfolding padded
+    reading_more {task} form is room =
+        let so_far = map task_at r.seen in
+        let long : length so_far ≡ count = length-map r.seen task_at ∙ r.many in
+        let longer : length (so_far ++ (task ∷ [])) ≡ count + 1 = length-append so_far (task ∷ []) ∙ rw long in
+        let after : ℕ = max_tasks - (count + 1) in
+        let m : max_tasks - count ≡ suc after = omega arith in
+        record {
+          seen = r.seen ++ (line ∷ []);
+          split = r.split ∙ rw (next, append_assoc);
+          form = rw (all_more (is_task_line n) r.seen line, r.form, form);
+          many = length-append r.seen (line ∷ []) ∙ rw r.many;
+          read = rw (map-append task_at r.seen (line ∷ []), ← is, r.read, longer, long, m, set_at so_far blank (replicate after blank) task count long) (sym (append_snoc so_far task (replicate after blank)));
+          few = omega arith;
+        }
 
-    -- No line feed ends the next line.
-    unended : at < length input → end ≡ length input → refused NotTasks ≡ table_of n ps
-    unended h e =
-        let q : Reading ps (is_task_line n) task_at max_tasks blank tasks (line ∷ []) count = rw (from_past line_feed input (end + 1) (omega arith)) at (reading_part r.reading p) in
-        let long : length line ≡ end - at = length-take-le (end - at) (drop at input) (rw (length-drop at input) (omega arith)) in
-        by_last n ps (λ z. omega (arith, ap length (last_part q)))
+  -- The last part follows.
+  module _ (last : List ℕ) (ends : left ≡ last ∷ []) where
+    lines_seen : lines_of ps ≡ r.seen
+    unfolding lines_of
+    lines_seen = ap lines_of (r.split ∙ ap (λ (l : List (List ℕ)). r.seen ++ l) ends) ∙ lines_append r.seen (last ∷ []) (omega arith) ∙ append-nil r.seen
 
-    -- A line feed ends it, so that there is a part after it.
-    module _ (h : end < length input) where
-      more : 0 < length (parts_from line_feed input (end + 1))
-      more = rw (from_inside line_feed input (end + 1) (omega arith)) (parts_some line_feed (drop (end + 1) input))
+    last_is : last_of ps ≡ last
+    unfolding last_of
+    last_is = ap last_of (r.split ∙ ap (λ (l : List (List ℕ)). r.seen ++ l) ends) ∙ last_append r.seen (last ∷ []) (omega arith)
 
-      full : count ≡ max_tasks → refused NotTasks ≡ table_of n ps
-      full e =
-          let q = line_counts (reading_part r.reading p) more in
-          by_count n ps (rw (lt-leb (length (lines_of ps)) max_tasks (omega arith), and_false (leb 1 (length (lines_of ps)))))
+    pub no_line : count ≡ 0 → Err NotTasks ≡ table_of n ps
+    no_line e =
+        let none : length (lines_of ps) < 1 = omega (arith, ap length lines_seen, r.many) in
+        by_count (rw (lt-leb 1 (length (lines_of ps)) none))
 
-      pub other_line : is_task_line n line ≡ false → refused NotTasks ≡ table_of n ps
-      other_line e = by_line n ps (line_fails (reading_part r.reading p) more e)
+    pub unended : (length last ≡ 0 → ⊥) → Err NotTasks ≡ table_of n ps
+    unended e = by_last (rw last_is e)
 
-      pub rows_more : {task : Task} → is_task_line n line ≡ true → task ≡ task_at line → count < max_tasks → Rows n input start (set tasks count task) (count + 1) (end + 1)
-      rows_more form is room =
-          record {
-            reading = reading_more (reading_part r.reading p) form is room;
-            place = omega arith;
-            few = omega arith;
-          }
-
-    -- The code's test before it reads a line.
-    pub unended_or_full : at < length input → (eqb end (length input) || eqb count max_tasks) ≡ true → refused NotTasks ≡ table_of n ps
-    unended_or_full h =
-        either (λ t. (t || eqb count max_tasks) ≡ true → refused NotTasks ≡ table_of n ps) (eqb end (length input))
-        (λ e t. unended h (eqb-true end (length input) e))
-        (λ e t. full (omega (arith, p.inside, eqb-false end (length input) e)) (eqb-true count max_tasks t))
-
-    pub ended_and_room : (eqb end (length input) || eqb count max_tasks) ≡ false → (end < length input) × (count < max_tasks)
-    ended_and_room e =
-        let k = both_false (eqb end (length input)) (eqb count max_tasks) e in
-        (omega (arith, p.inside, eqb-false end (length input) k.0), omega (arith, r.few, eqb-false count max_tasks k.1))
-
-  -- The input ends with its last line feed.
-  module _ (h : length input ≤ at) where
-    whole : Reading ps (is_task_line n) task_at max_tasks blank tasks ([] ∷ []) count
-    unfolding parts
-    whole = rw (from_inside line_feed input at r.place, drop_of_length-le input h) at r.reading
-
-    pub no_line : count ≡ 0 → refused NotTasks ≡ table_of n ps
-    no_line e = by_count n ps (rw (lines_count whole ∙ e))
-
-    pub all_lines : (count ≡ 0 → ⊥) → record { form = Passed; n = n; count = count; tasks = tasks } ≡ table_of n ps
+    pub all_lines : (count ≡ 0 → ⊥) → length last ≡ 0 → Ok (record { n = n; count = count; tasks = tasks }) ≡ table_of n ps
     unfolding table_of is_task_lines table
-    all_lines some =
-        let long : length (map task_at (lines_of ps)) ≡ count = length-map (lines_of ps) task_at ∙ lines_count whole in
-        rw (
-          last_part whole,
-          lines_count whole,
-          le-leb 1 count (omega arith),
-          le-leb count max_tasks r.few,
-          lines_pass whole,
-          long,
-          lines_stored whole,
-        )
+    all_lines some none =
+        let long : length (map task_at r.seen) ≡ count = length-map r.seen task_at ∙ r.many in
+        rw (last_is, eq-eqb (length last) 0 none, lines_seen, r.many, le-leb 1 count (omega arith), le-leb count max_tasks r.few, r.form, long, r.read)

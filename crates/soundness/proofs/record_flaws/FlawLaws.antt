@@ -9,26 +9,24 @@ use lib.ListN.{length, get_or, take, get_or-eq_default}
 use lib.Bits.{bit_or}
 use lib.Dec.{leb, ltb}
 use borrow.Author.Tests.{ltb-true, ltb-false, lt-ltb, le-ltb}
+use Rattle.std.specs.Prelude.{Result, Ok, Err}
+use Rattle.std.specs.Result.{OkIff, result_unwrap_or}
 use Rattle.model.specs.declared.Order.{Order}
 use Rattle.model.specs.Limits.{max_cost}
 use Rattle.model.specs.Lists.{at, all, is_zero, total, largest, upward}
 use Rattle.model.specs.DelayBound.{on_time, bound_tick, delay_bound}
 use Rattle.model.specs.Soundness.{due_in_range, station_in_use, costs_in_range, maxima_in_range, sum_in_range, zero_beyond, record_zero_beyond}
-use Rattle.lists.proofs.Fills.{length-upward, get_d_upward, upward-same, fill_end}
+use Rattle.lists.proofs.Fills.{length-upward, get_d_upward, upward-same}
 use Rattle.lists.proofs.Tests.{either, largest_under}
 use Rattle.lists.proofs.Overlays.{or_zero, zero_or}
 use Rattle.schedule.proofs.Laws.{at-largest}
 use Rattle.image_laws.proofs.Tests.{Says, leb_says, eqb_says, and_says, in_words, entries_say}
 use Rattle.image_laws.proofs.Clauses.{zero_beyond_lem, costs_say, maxima_say}
-use Rattle.soundness.specs.declared.row_limits.Limits.{Limits}
-use Rattle.soundness.specs.RowLimits.{first_places, Made}
+use Rattle.soundness.proofs.Facts.{same_fact}
+use Rattle.soundness.specs.RowLimits.{first_places}
 use Rattle.soundness.proofs.row_limits.LimitLaws.{first_place}
 use Rattle.soundness.specs.RecordFlaws.{flaw_at}
 use Rattle.soundness.specs.Holds.{ticks_hold, rows_hold, record_holds}
-
--- Two tests of one fact.
-same_fact : {a b : Bool} {P : Type 0} → Says a P → Says b P → a ≡ b
-same_fact {a} {b} {P} p q = either (λ t. t ≡ b) a (λ e. sym (q.passes (p.tells e))) (λ e. either (λ t. false ≡ t) b (λ f. sym e ∙ p.passes (q.tells f)) (λ f. refl))
 
 itself : (b : Bool) → Says b (b ≡ true)
 itself b = record { tells = λ e. e; passes = λ e. e }
@@ -231,12 +229,23 @@ module _ (n : ℕ) (o : Order) (fits : n ≤ 8) (long : length o.costs ≡ 8) (h
       ∙ overlaid_beyond flaws own eight (length-upward 0 8 flaw) 0
       ∙ ap (λ t. all is_zero flaws && t) (same_fact row_says rows_say)
 
-pub gathered_all : {l : Limits} → Made l → (o : Order) → length o.costs ≡ 8 → length o.maxima ≡ 8 → ((i : ℕ) → get_or o.costs i 0 < 65536)
-    → (flaws row : List ℕ) {sum : ℕ} → length flaws ≡ 8 → sum ≡ min o.sum 65535 → length row ≡ 8
-    → take 8 row ≡ upward 0 8 (gathered flaws l.least l.most o.costs o.maxima sum)
-    → all is_zero row ≡ (all is_zero flaws && rows_hold l.n o)
-gathered_all {l} w o long high small flaws row {sum} eight e whole filled =
-    let least : l.least ≡ first_places l.n 1 = ap (λ (m : Limits). m.least) w.is in
-    let most : l.most ≡ first_places l.n max_cost = ap (λ (m : Limits). m.most) w.is in
-    ap (all is_zero) (fill_end (gathered flaws l.least l.most o.costs o.maxima sum) row 8 whole filled)
-    ∙ rw (least, most, e) (flaws_more l.n o w.stations long high small flaws eight)
+-- A number that was tried as one of two bytes, and the largest of those where it is none.
+pub narrowed : {E : Type 0} (r : Result ℕ E) (x : ℕ) → OkIff r (x < 65536) x → result_unwrap_or r 65535 ≡ min x 65535
+narrowed (Ok y) x h = omega (arith, h.0, h.1)
+narrowed (Err e) x h =
+    either (λ b. 65535 ≡ min x 65535) (ltb x 65536)
+    (λ t. absurd (h (ltb-true x 65536 t)))
+    (λ t. omega (arith, ltb-false x 65536 t))
+
+-- Of a row that has at each place what is gathered there.
+pub gathered_all : (n : ℕ) {least most : List ℕ} → n ≤ 8 → least ≡ first_places n 1 → most ≡ first_places n max_cost
+    → (o : Order) → length o.costs ≡ 8 → length o.maxima ≡ 8 → ((i : ℕ) → get_or o.costs i 0 < 65536)
+    → (flaws row : List ℕ) {sum : ℕ} → length flaws ≡ 8 → sum ≡ min o.sum 65535
+    → row ≡ upward 0 8 (gathered flaws least most o.costs o.maxima sum)
+    → all is_zero row ≡ (all is_zero flaws && rows_hold n o)
+gathered_all n fits low high o long tall small flaws row eight e filled =
+    ap (all is_zero) filled ∙ rw (low, high, e) (flaws_more n o fits long tall small flaws eight)
+
+-- The same of ranks.
+pub ranks_all : (ranks own row : List ℕ) → length ranks ≡ 8 → length own ≡ 8 → row ≡ upward 0 8 (λ k. bit_or (get_or ranks k 0) (get_or own k 0)) → (n : ℕ) → zero_beyond n row ≡ (zero_beyond n ranks && zero_beyond n own)
+ranks_all ranks own row p q e n = rw e (overlaid_beyond ranks own p q n)

@@ -38,10 +38,6 @@ module _ (services : List Service) (eight : length services ≡ 8) where
   unfolding served_by any
   served_none = is_numbered_lem (λ k e. any (serves k e) []) idle false services (replicate 8 false) (sym eight) (λ i h. get_or-replicate 8 i false false (omega arith))
 
-  pub length_served : (l : List Order) → length (served_by services l) ≡ 8
-  unfolding served_by
-  length_served l = length-numbered (λ k e. any (serves k e) l) 1 services ∙ eight
-
   -- The mark of the station at place i.
   pub served_at_lem : (l : List Order) (i : ℕ) → i < 8 → get_or (served_by services l) i false ≡ any (serves (suc i) (get_or services i idle)) l
   unfolding served_by

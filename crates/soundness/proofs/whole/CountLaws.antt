@@ -2,7 +2,7 @@
 use mathlib.Core.Path.{◌≡◌, sym, ap, ◌∙◌}
 use mathlib.Core.Bool.{Bool, true, false, not, ◌||◌}
 use mathlib.Core.List.{List}
-use Prim.Native.Nat.{ℕ, ◌≤◌}
+use Prim.Native.Nat.{ℕ}
 use lib.Dec.{ltb}
 use borrow.Author.Tests.{ltb-true, ltb-false, le-leb, lt-leb}
 use Rattle.lists.proofs.Tests.{either, both_false, inside}
@@ -14,23 +14,16 @@ use Rattle.model.specs.Image.{live_count, decode}
 use Rattle.model.specs.Soundness.{station_count_in_range, live_count_in_range, clauses, sound}
 use Rattle.soundness.specs.Whole.{later_hold}
 
--- Counts that pass are in range.
-pub counts_in_range : (n live : ℕ) → (ltb n 1 || ltb max_stations n || ltb max_live live) ≡ false → (1 ≤ n) × (n ≤ max_stations) × (live ≤ max_live)
-counts_in_range n live e =
-    let f = both_false (ltb n 1 || ltb max_stations n) (ltb max_live live) e in
-    let g = both_false (ltb n 1) (ltb max_stations n) f.0 in
-    (ltb-false n 1 g.0, ltb-false max_stations n g.1, ltb-false max_live live f.1)
-
 module _ (image : List ℕ) {n : ℕ} (is : n ≡ byte image station_count_at) where
   pub counted : {outside : Bool} → (ltb n 1 || ltb max_stations n) ≡ outside → station_count_in_range (decode image) ≡ not outside
   unfolding station_count_in_range decode
   counted e = inside 1 max_stations (byte image station_count_at) (ap (λ (m : ℕ). ltb m 1 || ltb max_stations m) (sym is) ∙ e)
 
   -- The tests of the counts say whether the image is sound.
-  pub counts_unsound : (ltb n 1 || ltb max_stations n || ltb max_live (live_count image)) ≡ true → false ≡ sound image
+  pub counts_unsound : (ltb n 1 || ltb max_stations n || ltb max_live (live_count image)) ≡ true → sound image ≡ false
   unfolding sound clauses all live_count_in_range
   counts_unsound e =
-      either (λ t. false ≡ sound image) (ltb n 1 || ltb max_stations n)
+      either (λ t. sound image ≡ false) (ltb n 1 || ltb max_stations n)
       (λ out. rw (counted out))
       (λ fine. rw (counted fine, lt-leb (live_count image) max_live (ltb-true max_live (live_count image) (rw fine at e))))
 

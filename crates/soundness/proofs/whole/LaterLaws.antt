@@ -6,7 +6,6 @@ use Prim.Native.Nat.{ℕ}
 use lib.ListN.{drop}
 use lib.Dec.{leb}
 use Rattle.model.specs.declared.Order.{Order}
-use Rattle.model.specs.declared.Service.{Service}
 use Rattle.model.specs.Limits.{last_tick}
 use Rattle.model.specs.Lists.{all}
 use Rattle.model.specs.Bytes.{byte, word}
@@ -62,7 +61,7 @@ module _ (image : List ℕ) where
   all_in_one =
       rw (clause_by_clause (byte image station_count_at) (word image clock_at) (orders_of image (live_count image))) (simp (and_assoc, and_true))
 
-  pub hold_is : {n live clock : ℕ} {services : List Service} {zero unused tickets held idle served : Bool}
+  pub hold_is : {n live clock : ℕ} {zero unused tickets held idle served : Bool}
       → n ≡ byte image station_count_at
       → live ≡ live_count image
       → clock ≡ word image clock_at
@@ -70,8 +69,7 @@ module _ (image : List ℕ) where
       → unused ≡ unused_records_zero image
       → tickets ≡ tickets_in_order (decode image)
       → held ≡ all (record_holds n clock) (orders_of image live)
-      → services ≡ services_of image
-      → idle ≡ all is_idle (drop n services)
+      → idle ≡ all is_idle (drop n (services_of image))
       → served ≡ services_in_order (decode image)
       → (leb clock last_tick && zero && unused && tickets && held && idle && served) ≡ later_hold image
-  hold_is en el ec ez eu ek eh es ei er = rw (ez, eu, ek, eh, ei, er, es, en, el, ec) all_in_one
+  hold_is en el ec ez eu ek eh ei er = rw (ez, eu, ek, eh, ei, er, en, el, ec) all_in_one

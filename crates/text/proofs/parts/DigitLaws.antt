@@ -1,42 +1,30 @@
 -- A word, digit by digit: form and value of the digits that are left decide those of the whole. The tests are those of the code that reads it.
 use mathlib.Core.Path.{◌≡◌, refl, ◌∙◌}
-use mathlib.Core.Bool.{Bool, true, false, not, ◌&&◌, ◌||◌}
-use mathlib.Core.List.{List, [], ◌∷◌, foldl}
+use mathlib.Core.Bool.{Bool, true, false, ◌||◌}
+use mathlib.Core.List.{List, ◌∷◌, foldl}
 use Prim.Native.Nat.{ℕ, ◌+◌, ◌*◌, ◌^◌, ◌≤◌, ◌<◌}
 use native.Mathlib.Nat.{pow-suc}
 use native.Mathlib.Numerals.{add-one}
 use native.Mathlib.Omega.{arith}
-use lib.Dec.{eqb, ltb}
+use lib.Dec.{ltb}
 use lib.ListN.{length, get_or, drop, drop_of_length-le}
 use lib.Seq.{drop-cons}
 use borrow.Author.Tests.{ltb-false}
 use Rattle.model.specs.Lists.{all}
 use Rattle.lists.proofs.Tests.{both_false, inside}
-use Rattle.text.specs.Number.{is_digit, no_leading_zero, appended, value_of}
+use Rattle.text.specs.Number.{is_digit, appended, value_of}
 
--- A number below one bound or above the other; a byte that is no digit; a first digit that must not be there.
+-- A number below one bound or above the other; a byte that is no digit.
 abbrev pub outside : ℕ → ℕ → ℕ → Bool
 outside low high n = ltb n low || ltb high n
 
 abbrev pub other_byte : ℕ → Bool
 other_byte b = outside 48 57 b
 
-abbrev pub leading_zero : List ℕ → Bool
-leading_zero word = not (eqb (length word) 1) && eqb (get_or word 0 0) 48
-
 pub bounds : (low high n : ℕ) → outside low high n ≡ false → (low ≤ n) × (n ≤ high)
 bounds low high n e =
     let k = both_false (ltb n low) (ltb high n) e in
     (ltb-false n low k.0, ltb-false high n k.1)
-
-lone_or_other : (lone zero : Bool) → (lone || not zero) ≡ not (not lone && zero)
-lone_or_other true true = refl
-lone_or_other true false = refl
-lone_or_other false true = refl
-lone_or_other false false = refl
-
-pub first_digit : (word : List ℕ) {zero : Bool} → leading_zero word ≡ zero → no_leading_zero word ≡ not zero
-first_digit word e = lone_or_other (eqb (length word) 1) (eqb (get_or word 0 0) 48) ∙ rw e
 
 -- The first i digits are read, and have this value.
 pub record Digits (word : List ℕ) (value i : ℕ) : Type 0 where
@@ -49,9 +37,6 @@ unfolding value_of
 digits_none = record { form = refl; left = refl; small = omega arith }
 
 module _ {word : List ℕ} {value i : ℕ} (k : Digits word value i) where
-  pub digit_range : other_byte (get_or word i 0) ≡ false → (48 ≤ get_or word i 0) × (get_or word i 0 ≤ 57)
-  digit_range e = bounds 48 57 (get_or word i 0) e
-
   -- The next byte is a digit, or it is none; or no byte is left.
   module _ (h : i < length word) where
     next_byte : drop i word ≡ get_or word i 0 ∷ drop (i + 1) word
@@ -75,11 +60,3 @@ module _ {word : List ℕ} {value i : ℕ} (k : Digits word value i) where
   pub digits_all : length word ≤ i → (all is_digit word ≡ true) × (value_of word ≡ value)
   unfolding all
   digits_all h = (k.form ∙ rw (drop_of_length-le word h), k.left ∙ rw (drop_of_length-le word h))
-
-  -- What the digits read say is no more than what the word says.
-  pub digits_least : value ≤ value_of word
-  digits_least = rw k.left (grows value (drop i word))
-    where
-      grows : (v : ℕ) (l : List ℕ) → v ≤ foldl appended v l
-      grows v [] = omega arith
-      grows v (d ∷ l) = omega (arith, grows (appended v d) l)

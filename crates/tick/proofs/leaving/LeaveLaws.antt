@@ -6,7 +6,7 @@ use mathlib.Core.List.{List, [], ◌∷◌, ◌++◌, map, map-append, append-ni
 use Prim.Native.Nat.{ℕ, zero, suc, ◌+◌, ◌-◌, ◌*◌, ◌≤◌, ◌<◌}
 use native.Mathlib.Numerals.{add-one}
 use native.Mathlib.Omega.{arith}
-use lib.ListN.{length, length-append, length-replicate, get_or, take, replicate, replicate-append-replicate}
+use lib.ListN.{length, length-append, get_or, take, replicate}
 use lib.Seq.{take-suc, take_all, length-take-le}
 use lib.Dec.{leb, eqb}
 use borrow.Author.Tests.{le-leb, eqb-true, ne_eqb}
@@ -25,7 +25,6 @@ use Rattle.lists.proofs.Fills.{past, length-upward, get_d_upward, concat-append,
 use Rattle.schedule.specs.Valid.{◌∈◌}
 use Rattle.schedule.specs.Pass.{moved}
 use Rattle.image_laws.proofs.Rows.{get_d_in}
-use Rattle.image.specs.Pipeline.{unused}
 use Rattle.tick.specs.Selection.{Placed}
 use Rattle.tick.proofs.entries.StationLaws.{at_place}
 use Rattle.tick.specs.Leaving.{finishes, moved_by, remaining, rows, Held, Holds, Moved, Left}
@@ -152,15 +151,6 @@ module _ (l : List ℕ) (live : ℕ) where
 
       pub placed_here : Placed o
       placed_here = rw next_read (held.placed _ (get_d_in (orders_of l live) past i (below i more)))
-
--- A record without an order is zeros: one more of them.
-pub unused_more : (kept j : ℕ) {l mid t : List ℕ} {o : Order} → kept ≤ j → Stored l (records_at + record_size * kept) (replicate (record_size * (j - kept)) 0) mid → o ≡ unused → Stored mid (records_at + record_size * j) (order_bytes o) t → Stored l (records_at + record_size * kept) (replicate (record_size * (j + 1 - kept)) 0) t
-unfolding order_bytes concat
-unused_more kept j h w e s =
-    let more : record_size * (j - kept) + record_size ≡ record_size * (j + 1 - kept) = omega arith in
-    let zeros : Stored _ _ (replicate record_size 0) _ = rw e at s in
-    rw (← more, ← replicate-append-replicate {A = ℕ} (record_size * (j - kept)) record_size 0)
-    (stored_then w (rw (length-replicate {A = ℕ} (record_size * (j - kept)) 0) (omega arith)) zeros)
 
 -- All live orders have moved, and the records that are then free are zero; or no order leaves a station, and the records stay as they are.
 module _ (l : List ℕ) (live : ℕ) {n : ℕ} {services : List Service} where

@@ -26,22 +26,22 @@ pub put_joined-requires : goal.put_joined-requires
 put_joined-requires c =
     let spare = room c.requires (λ i. search rules) in
     let ok = c.requires in
-    record { image_len = (ok.whole, omega (arith, c.wide.ensures, spare)); by_index = λ i h. sums ok (λ i. search rules) i (omega (arith, h, c.wide.ensures)) }
+    record { few = omega (arith, c.from.ensures, spare); by_index = λ i h. sums ok (λ i. search rules) i (omega (arith, h, c.from.ensures)) }
 
-pub overflow_mul-wide : goal.overflow_mul-wide
-overflow_mul-wide c =
+pub overflow_mul-from : goal.overflow_mul-from
+overflow_mul-from c =
     let spare = room c.requires (λ i. search rules) in
-    omega (arith, c.wide-2.ensures, spare)
+    omega (arith, c.from-2.ensures, spare)
 
-pub overflow_add-wide : goal.overflow_add-wide
-overflow_add-wide c =
+pub overflow_add-from : goal.overflow_add-from
+overflow_add-from c =
     let spare = room c.requires (λ i. search rules) in
-    omega (arith, c.wide-2.ensures, spare)
+    omega (arith, c.from-2.ensures, spare)
 
 pub put_order-requires : goal.put_order-requires
 put_order-requires c =
     let spare = room c.requires (λ i. search rules) in
-    omega (arith, c.wide-2.ensures, spare, c.requires.whole, stored_length c.put_joined.ensures.stored)
+    omega (arith, c.from-2.ensures, spare, c.requires.whole, stored_length c.put_joined.ensures.stored)
 
 pub overflow_add-live : goal.overflow_add-live
 overflow_add-live c =
@@ -51,6 +51,6 @@ overflow_add-live c =
 pub returns : goal.returns
 returns c =
     let ok = c.requires in
-    let rows = rw c.wide.ensures at c.put_joined.ensures in
-    let laid = rw c.wide-2.ensures at c.put_order.ensures.0 in
+    let rows = rw c.from.ensures at c.put_joined.ensures in
+    let laid = rw c.from-2.ensures at c.put_order.ensures.0 in
     accepted ok (λ i. search rules) refl rows.stored rows.live_len laid c.put_order.ensures.1 c.put_header.ensures (decode_n _) (next_is _ ok c.ticket_after.ensures)

@@ -1,7 +1,6 @@
 -- The table's entry at the format's place.
-use Prim.Native.Nat.{◌-◌}
-use Rattle.admission.proofs.formats.FormatLaws.{side_at, side_most}
+use Rattle.admission.proofs.formats.FormatLaws.{side_at}
 use Rattle.admission.proofs.formats.long_side.Goals as goal
 
 pub returns : goal.returns
-returns c = (side_at c.args.format c.requires.0, side_most (c.args.format - 1))
+returns c = side_at c.args.format c.requires.0

@@ -1,24 +1,13 @@
-use mathlib.Core.Path.{◌≡◌, sym}
-use native.Mathlib.Omega.{arith}
-use lib.Seq.{take_all}
-use lib.ListN.{length}
+-- The first n entries, as the chain tests them.
 use lib.Dec.{leb}
 use borrow.Author.Rules.{rules}
-use Rattle.lists.proofs.Tests.{first_none, all_first}
+use Rattle.std.proofs.Common.{tests}
+use Rattle.std.proofs.lemmas.Iterator.{YieldsList-from_slice, YieldsList-from_take}
+use Rattle.std.proofs.lemmas.Iterator.Search.{all_from_yields_List}
+use Rattle.lists.proofs.Library.{all_list}
 use Rattle.admission.proofs.formats.moving.Goals as goal
-
-pub loop-k-init : goal.loop-k-init
-loop-k-init c = (omega arith, first_none (leb 1) c.args.n)
-
-pub loop-k-preserved : goal.loop-k-preserved
-loop-k-preserved c =
-    let row = c.args.speeds in
-    let long : length row ≡ 8 = search rules in
-    (omega arith, rw c.loop-k.invariant.1 (sym (all_first (leb 1) 0 c.args.n row c.loop-k.k (omega arith))))
 
 pub returns : goal.returns
 returns c =
-    let row = c.args.speeds in
-    let long : length row ≡ 8 = search rules in
-    let e : c.loop-k.k ≡ 8 = omega arith in
-    rw (e, take_all 8 row (omega arith)) at c.loop-k.invariant.1
+    rw (all_list (leb 1))
+    (all_from_yields_List (leb 1) _ _ _ c.all.ensures.ran (YieldsList-from_take c.args.n (YieldsList-from_slice c.args.speeds (cc)) (cc)) (λ x b q k. search (rules, tests)))

@@ -1,51 +1,73 @@
 -- The live orders are tried, and what comes out decides.
 use borrow.Author.Rules.{rules}
-use mathlib.Core.Path.{sym, ap, subst, ◌∙◌}
+use mathlib.Core.Path.{sym, subst, ◌∙◌}
+use Prim.Native.Nat.{◌≤◌}
 use native.Mathlib.Omega.{arith}
+use lib.Seq.{length-take-le}
 use mir.Syntax.{w32}
 use mir.Facts.{to_z-of_z}
+use Rattle.std.proofs.lemmas.Result.{err_from_is_err_and}
 use Rattle.image.specs.Pipeline.{listed}
-use Rattle.soundness.specs.declared.row_limits.Limits.{Limits}
-use Rattle.soundness.proofs.row_limits.LimitLaws.{made}
 use Rattle.admission.specs.OrderQuestions.{Decides}
 use Rattle.image.proofs.Carried.{few}
 use Rattle.admission.proofs.order_questions.PipelineLaws.{arrival_tried, live_tried, arrival_is, others_are}
 use Rattle.admission.proofs.order_questions.FitLaws.{margin_fits}
 use Rattle.admission.proofs.order_questions.TryLaws.{decides}
+use Rattle.admission.proofs.order_questions.OfferLaws.{accepts, declines}
 use Rattle.admission.proofs.order_questions.answered.Goals as goal
 
-pub limits_of-l-requires : goal.limits_of-l-requires
+pub new-limits-requires : goal.new-limits-requires
 unfolding listed
-limits_of-l-requires c =
+new-limits-requires c =
     let facts = c.requires.sound_pipeline.sound.facts in
-    (omega (arith, c.wide32.ensures, facts.n_low), omega (arith, c.wide32.ensures, facts.n_high))
+    (omega (arith, c.from.ensures, facts.n_low), omega (arith, c.from.ensures, facts.n_high))
 
-pub try_all-t-requires : goal.try_all-t-requires
-unfolding listed
-try_all-t-requires c =
-    let n_is = ap (λ (l : Limits). l.n) c.limits_of-l.ensures ∙ c.wide32.ensures in
-    let limits_made = made c.limits_of-l.ensures (omega (arith, c.wide32.ensures, c.requires.sound_pipeline.sound.facts.n_high)) in
-    record { live_le_max_live = (omega (arith, c.wide.ensures, few c.requires.sound_pipeline), limits_made); tryable = live_tried c.requires.sound_pipeline c.requires.fitting n_is c.wide.ensures }
+pub slice_bounds-orders-end : goal.slice_bounds-orders-end
+slice_bounds-orders-end c = omega (arith, c.from-count.ensures, few c.requires.sound_pipeline)
 
-pub arrival-a-requires : goal.arrival-a-requires
-unfolding listed
-arrival-a-requires c = c.requires.fitting.due_tick
+pub slice_bounds-try_all-end : goal.slice_bounds-try_all-end
+slice_bounds-try_all-end c =
+    let short : c.from-count.result ≤ 32 = omega (arith, c.from-count.ensures, few c.requires.sound_pipeline) in
+    sym (length-take-le c.from-count.result c.args.p.orders (omega (arith, short)))
 
-pub decide-decision-requires : goal.decide-decision-requires
+pub try_all-tried-requires : goal.try_all-tried-requires
 unfolding listed
-decide-decision-requires c =
-    let n_is = ap (λ (l : Limits). l.n) c.limits_of-l.ensures ∙ c.wide32.ensures in
-    let limits_made = made c.limits_of-l.ensures (omega (arith, c.wide32.ensures, c.requires.sound_pipeline.sound.facts.n_high)) in
-    let is_arrival = c.arrival-a.ensures ∙ arrival_is _ _ n_is c.wide.ensures c.try_all-t.ensures in
+try_all-tried-requires c =
+    let n_is = c.new-limits.ensures ∙ c.from.ensures in
+    let short : c.from-count.result ≤ 32 = omega (arith, c.from-count.ensures, few c.requires.sound_pipeline) in
+    record {
+      few = omega (arith, short, length-take-le c.from-count.result c.args.p.orders (omega (arith, short)));
+      tryable = live_tried c.requires.sound_pipeline c.requires.fitting n_is c.from-count.ensures;
+    }
+
+pub arrival-arrival-requires : goal.arrival-arrival-requires
+unfolding listed
+arrival-arrival-requires c = c.requires.fitting.due_tick
+
+pub decide-requires : goal.decide-requires
+unfolding listed
+decide-requires c =
+    let n_is = c.new-limits.ensures ∙ c.from.ensures in
+    let is_arrival = c.arrival-arrival.ensures ∙ arrival_is _ _ n_is c.from-count.ensures c.try_all-tried.ensures in
+    arrival_tried c.requires.sound_pipeline c.requires.fitting n_is is_arrival
+
+pub returns-in_err-figures : goal.returns-in_err-figures
+unfolding listed
+returns-in_err-figures c =
+    let n_is = c.new-limits.ensures ∙ c.from.ensures in
+    let is_arrival = c.arrival-arrival.ensures ∙ arrival_is _ _ n_is c.from-count.ensures c.try_all-tried.ensures in
     let fits = arrival_tried c.requires.sound_pipeline c.requires.fitting n_is is_arrival in
-    (limits_made, fits)
+    let is = rw (n_is, is_arrival, to_z-of_z {w = w32} {z = c.try_all-tried.result.least} (search rules)) at c.in_err-figures.ensures in
+    let own = margin_fits _ _ (rw (n_is, is_arrival) at fits) in
+    let p = err_from_is_err_and c.from_residual.result c.from_residual.ensures.1 in
+    rw (p.1, p.2) (declines (subst (Decides _ _ _) (sym is) (decides _ _ _ (others_are _ _ n_is c.from-count.ensures c.try_all-tried.ensures) own)))
 
 pub returns : goal.returns
 unfolding listed
 returns c =
-    let n_is = ap (λ (l : Limits). l.n) c.limits_of-l.ensures ∙ c.wide32.ensures in
-    let is_arrival = c.arrival-a.ensures ∙ arrival_is _ _ n_is c.wide.ensures c.try_all-t.ensures in
+    let n_is = c.new-limits.ensures ∙ c.from.ensures in
+    let is_arrival = c.arrival-arrival.ensures ∙ arrival_is _ _ n_is c.from-count.ensures c.try_all-tried.ensures in
     let fits = arrival_tried c.requires.sound_pipeline c.requires.fitting n_is is_arrival in
-    let is = rw (n_is, is_arrival, to_z-of_z {w = w32} {z = c.try_all-t.result.least} (search rules)) at c.decide-decision.ensures in
+    let is = rw (n_is, is_arrival, to_z-of_z {w = w32} {z = c.try_all-tried.result.least} (search rules)) at c.in_ok-figures.ensures in
     let own = margin_fits _ _ (rw (n_is, is_arrival) at fits) in
-    record { decides = subst (Decides _ _ _) (sym is) (decides _ _ _ (others_are _ _ n_is c.wide.ensures c.try_all-t.ensures) own); arrives = λ e. is_arrival }
+    accepts (subst (Decides _ _ _) (sym is) (decides _ _ _ (others_are _ _ n_is c.from-count.ensures c.try_all-tried.ensures) own)) is_arrival

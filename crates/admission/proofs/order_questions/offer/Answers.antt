@@ -21,7 +21,6 @@ use Rattle.image_laws.proofs.Read.{decode_n, decode_clock, decode-next, decode-l
 use Rattle.image_laws.proofs.Sound.{sound_gives}
 use Rattle.call_laws.proofs.offers.Questions.{fitting}
 use Rattle.call_laws.specs.Considered.{Fitting}
-use Rattle.admission.specs.OrderQuestions.{Offers}
 use Rattle.image.proofs.Decoded.{readable, listed_is, sound_pipeline}
 use Rattle.admission.proofs.order_questions.OfferLaws.{BlockIs, costs_no, due_in_no, due_tick_no, tickets_no, room_no, all_yes}
 use Rattle.admission.proofs.order_questions.offer.Goals as goal
@@ -48,70 +47,67 @@ module _ (image : List ℕ) (b : Block) where
 
 pub returns-then-not-fits : goal.returns-then-not-fits
 returns-then-not-fits c =
-    subst (Offers _ _ _) (sym c.declined.ensures) (costs_no _ _ (block_is c.args.image.now c.args.b c.wide32.ensures c.fits.ensures c.if-not-fits.true))
+    (costs_no _ _ (block_is c.args.image.now c.args.b c.from.ensures c.fits.ensures c.if-not-fits.true))
 
-pub returns-then-wide64-gt-MAX_DUE_IN : goal.returns-then-wide64-gt-MAX_DUE_IN
-returns-then-wide64-gt-MAX_DUE_IN c =
-    let block = block_is c.args.image.now c.args.b c.wide32.ensures c.fits.ensures c.if-not-fits.false in
-    subst (Offers _ _ _) (sym c.declined-then-wide64-gt-MAX_DUE_IN.ensures) (due_in_no _ _ block (lt-leb c.args.b.due_in max_due_in (omega arith)))
+pub returns-then-from-gt-MAX_DUE_IN : goal.returns-then-from-gt-MAX_DUE_IN
+returns-then-from-gt-MAX_DUE_IN c =
+    let block = block_is c.args.image.now c.args.b c.from.ensures c.fits.ensures c.if-not-fits.false in
+    (due_in_no _ _ block (lt-leb c.args.b.due_in max_due_in (omega arith)))
 
-pub returns-then-wide64-due_tick : goal.returns-then-wide64-due_tick
-returns-then-wide64-due_tick c =
+pub returns-then-from-due_tick : goal.returns-then-from-due_tick
+returns-then-from-due_tick c =
     let image = c.args.image.now in
     let b = c.args.b in
-    let block = block_is image b c.wide32.ensures c.fits.ensures c.if-not-fits.false in
+    let block = block_is image b c.from.ensures c.fits.ensures c.if-not-fits.false in
     let due_in = due_in_yes image b (omega arith) in
-    subst (Offers _ _ _) (sym c.declined-then-wide64-due_tick.ensures)
     (due_tick_no _ _ block due_in (lt-leb (due_of (decode image).clock b) last_tick (omega (arith, due_tick_is image b c.u32_at-clock.ensures c.due_tick.ensures))))
 
 pub returns-then-next-eq0 : goal.returns-then-next-eq0
 returns-then-next-eq0 c =
     let image = c.args.image.now in
     let b = c.args.b in
-    let block = block_is image b c.wide32.ensures c.fits.ensures c.if-not-fits.false in
+    let block = block_is image b c.from.ensures c.fits.ensures c.if-not-fits.false in
     let due_in = due_in_yes image b (omega arith) in
     let due_tick = due_tick_yes image b c.u32_at-clock.ensures c.due_tick.ensures (omega arith) in
-    subst (Offers _ _ _) (sym c.declined-then-next-eq0.ensures)
     (tickets_no _ _ block due_in due_tick (lt-leb 1 (decode image).next (omega (arith, c.u32_at-next.ensures ∙ decode-next image))))
 
 pub returns-then-live-ge-MAX_LIVE : goal.returns-then-live-ge-MAX_LIVE
 returns-then-live-ge-MAX_LIVE c =
     let image = c.args.image.now in
     let b = c.args.b in
-    let block = block_is image b c.wide32.ensures c.fits.ensures c.if-not-fits.false in
+    let block = block_is image b c.from.ensures c.fits.ensures c.if-not-fits.false in
     let due_in = due_in_yes image b (omega arith) in
     let due_tick = due_tick_yes image b c.u32_at-clock.ensures c.due_tick.ensures (omega arith) in
     let ticket = ticket_yes image b c.u32_at-next.ensures (omega arith) in
-    subst (Offers _ _ _) (sym c.declined-then-live-ge-MAX_LIVE.ensures)
     (room_no _ _ block due_in due_tick ticket (le-ltb (length (decode image).orders) max_live (omega (arith, decode-live image))))
 
 pub decode-requires : goal.decode-requires
-decode-requires c = readable _ (λ i. (c.type_inv.image i).fits) c.requires.1 c.requires.0
+decode-requires c = readable _ (λ i. search rules) c.requires
 
 pub answered-requires : goal.answered-requires
 answered-requires c =
     let image = c.args.image.now in
     let b = c.args.b in
-    let bytes : Below byte_limit image = λ i. (c.type_inv.image i).fits in
+    let bytes : Below byte_limit image = λ i. search rules in
     let eight_costs : length b.costs ≡ 8 = search rules in
-    let enough : (decode image).n ≤ length b.costs = omega (arith, (sound_gives image bytes c.requires.1).facts.n_high) in
-    let block = block_is image b c.wide32.ensures c.fits.ensures c.if-not-fits.false in
+    let enough : (decode image).n ≤ length b.costs = omega (arith, (sound_gives image bytes c.requires).facts.n_high) in
+    let block = block_is image b c.from.ensures c.fits.ensures c.if-not-fits.false in
     let due_in = due_in_yes image b (omega arith) in
     let due_tick = due_tick_yes image b c.u32_at-clock.ensures c.due_tick.ensures (omega arith) in
     let ticket = ticket_yes image b c.u32_at-next.ensures (omega arith) in
     let room = room_yes image b (omega arith) in
     record {
-      sound_pipeline = sound_pipeline _ bytes c.requires.1 c.decode.ensures;
-      fitting = subst (λ (s : State). Fitting s b) (sym (listed_is _ bytes c.requires.1 c.decode.ensures)) (fitting _ _ enough block due_in due_tick ticket room);
+      sound_pipeline = sound_pipeline _ bytes c.requires c.decode.ensures;
+      fitting = subst (λ (s : State). Fitting s b) (sym (listed_is _ bytes c.requires c.decode.ensures)) (fitting _ _ enough block due_in due_tick ticket room);
     }
 
 pub returns : goal.returns
 returns c =
     let image = c.args.image.now in
     let b = c.args.b in
-    let block = block_is image b c.wide32.ensures c.fits.ensures c.if-not-fits.false in
+    let block = block_is image b c.from.ensures c.fits.ensures c.if-not-fits.false in
     let due_in = due_in_yes image b (omega arith) in
     let due_tick = due_tick_yes image b c.u32_at-clock.ensures c.due_tick.ensures (omega arith) in
     let ticket = ticket_yes image b c.u32_at-next.ensures (omega arith) in
     let room = room_yes image b (omega arith) in
-    all_yes _ _ block due_in due_tick ticket room _ (rw (listed_is _ (λ i. (c.type_inv.image i).fits) c.requires.1 c.decode.ensures) at c.answered.ensures)
+    all_yes _ _ block due_in due_tick ticket room _ (rw (listed_is _ (λ i. search rules) c.requires c.decode.ensures) at c.answered.ensures)

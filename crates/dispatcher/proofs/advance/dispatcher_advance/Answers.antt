@@ -1,17 +1,11 @@
--- The first "no" of four declines; where there is none, what is lent is usable and the state decides.
-use mathlib.Core.Path.{sym, ◌∙◌}
-use Rattle.image_laws.proofs.Questions.{replied}
-use Rattle.dispatcher.proofs.advance_parts.AdvanceLaws.{usable, declined}
+-- A reply of another length is untouched; one of its length holds what the tick comes to.
+use borrow.Author.Rules.{rules}
+use Rattle.dispatcher.proofs.replies.Declines.{gives_back}
+use Rattle.dispatcher.proofs.advance_parts.AdvanceLaws.{advance_untouched}
 use Rattle.dispatcher.proofs.advance.dispatcher_advance.Goals as goal
 
-pub put_decline-requires : goal.put_decline-requires
-put_decline-requires c = λ other.
-    replied _ _ (λ e. other (c.number_to-number.ensures ∙ e))
+pub returns-in_default : goal.returns-in_default
+returns-in_default c = gives_back (advance_untouched c.args.image.now c.args.reply.now (search rules)) c.from.ensures (search rules) (search rules)
 
-pub returns-then-number-ne0 : goal.returns-then-number-ne0
-returns-then-number-ne0 c =
-    rw c.put_decline.ensures (declined _ _ c.number_to-number.result c.number_to-number.ensures c.if-number-ne0.true)
-
-pub advanced-requires : goal.advanced-requires
-advanced-requires c =
-    usable _ _ (sym c.number_to-number.ensures ∙ c.if-number-ne0.false)
+pub returns : goal.returns
+returns c = gives_back (c.advanced.ensures c.args.reply.now (search rules)) c.put_answer.ensures.number (search rules) (search rules)

@@ -1,49 +1,12 @@
--- The number first: one of those before the block declines, and with none of them the block decides that the order stands for.
-use mathlib.Core.Path.{◌≡◌, sym, ◌∙◌}
-use mathlib.Core.List.{List}
-use Prim.Native.Nat.{ℕ}
+-- A reply of another length is untouched; one of its length holds what the quote comes to.
+use mathlib.Core.Path.{refl}
 use borrow.Author.Rules.{rules}
-use Rattle.model.specs.Image.{decode}
-use Rattle.model.specs.Formats.{FormatOrder}
-use Rattle.image_laws.proofs.Questions.{replied}
-use Rattle.image_laws.proofs.Read.{decode_n}
-use Rattle.admission.specs.Formats.{held_block}
-use Rattle.dispatcher.proofs.format_parts.SheetLaws.{format_usable, readable, quote_taken_lem, quote_declined}
-use Rattle.dispatcher.proofs.format_parts.HeldLaws.{quote_held}
+use Rattle.dispatcher.proofs.replies.Declines.{gives_back}
+use Rattle.dispatcher.proofs.format_parts.SheetLaws.{quote_untouched}
 use Rattle.dispatcher.proofs.format.dispatcher_quote_format.Goals as goal
 
--- The order by format of the call's arguments.
-abbrev ordered : ℕ → ℕ → ℕ → List ℕ → FormatOrder
-ordered format due_in rank sheet = record { format = format; due_in = due_in; rank = rank; sheet = sheet }
-
-pub put_decline-requires : goal.put_decline-requires
-put_decline-requires c = λ other.
-    replied _ _ (λ e. other (c.first_format_number-number.ensures ∙ e))
-
-pub returns-then-number-ne0 : goal.returns-then-number-ne0
-returns-then-number-ne0 c =
-    rw c.put_decline.ensures (quote_declined _ _ _ c.first_format_number-number.result c.first_format_number-number.ensures c.if-number-ne0.true)
-
-pub bounds-image-5 : goal.bounds-image-5
-bounds-image-5 c =
-    let order = ordered c.args.format c.args.due_in c.args.rank c.args.sheet.now in
-    let all_pass = sym c.first_format_number-number.ensures ∙ c.if-number-ne0.false in
-    let whole = (format_usable _ order _ all_pass).image_whole in search rules
-
-pub block_from-requires : goal.block_from-requires
-block_from-requires c =
-    let all_pass = sym c.first_format_number-number.ensures ∙ c.if-number-ne0.false in
-    rw (c.wide32-n.ensures, decode_n _) (readable _ _ _ all_pass)
-
-pub quoted-requires : goal.quoted-requires
-quoted-requires c =
-    let order = ordered c.args.format c.args.due_in c.args.rank c.args.sheet.now in
-    let all_pass = sym c.first_format_number-number.ensures ∙ c.if-number-ne0.false in
-    format_usable _ order _ all_pass
+pub returns-in_default : goal.returns-in_default
+returns-in_default c = gives_back (quote_untouched c.args.image.now (record { format = c.args.format; due_in = c.args.due_in; rank = c.args.rank; sheet = c.args.sheet.now }) c.args.reply.now (search rules)) c.from.ensures refl (search rules)
 
 pub returns : goal.returns
-returns c =
-    let order = ordered c.args.format c.args.due_in c.args.rank c.args.sheet.now in
-    let all_pass = sym c.first_format_number-number.ensures ∙ c.if-number-ne0.false in
-    let block_is : c.block_from.result ≡ held_block (decode c.args.image.now).n order = rw (← decode_n _, ← c.wide32-n.ensures) c.block_from.ensures in
-    rw (← quote_taken_lem _ order _ all_pass, ← quote_held _ order _ (readable _ order _ all_pass), ← block_is) c.quoted.ensures
+returns c = gives_back (c.quote.ensures c.args.reply.now (search rules)) c.put_answer.ensures.number refl (search rules)

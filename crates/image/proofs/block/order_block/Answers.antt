@@ -11,8 +11,8 @@ use Rattle.image.proofs.block.order_block.Goals as goal
 pub returns : goal.returns
 unfolding block_bytes
 returns c =
-    let ranks_long : length c.args.ranks ≡ 8 = search rules in
-    let costs_long : length c.args.costs ≡ 8 = search rules in
+    let ranks_long : length c.args.b.ranks ≡ 8 = search rules in
+    let costs_long : length c.args.b.costs ≡ 8 = search rules in
     stored_all
-    (stored_then (stored_then c.put_u32.ensures (omega arith) c.put_eight_bytes.ensures) (simp length-append (omega arith)) c.put_eight_halves.ensures)
-    (simp length-append (omega (arith, length-halves c.args.costs)))
+    (stored_then (stored_then c.put_u32.ensures (omega arith) c.put.ensures) (simp length-append (omega arith)) c.put_rows.ensures.stored)
+    (simp length-append (omega (arith, length-halves c.args.b.costs)))

@@ -10,5 +10,6 @@ use Rattle.image.proofs.encode.encode_fresh.Goals as goal
 
 pub returns : goal.returns
 returns c =
+    let lent : length c.args.image.now ≡ image_size = search rules in
     let long : length c.put_header.new.image ≡ image_size = search rules in
-    fresh_encoded c.requires c.put_header.ensures (stored_same c.put_zeros.ensures (ap (λ (n : ℕ). replicate n 0) (after_header (length c.put_header.new.image) long)))
+    fresh_encoded lent c.put_header.ensures (stored_same c.put_zeros.ensures (ap (λ (n : ℕ). replicate n 0) (after_header (length c.put_header.new.image) long)))

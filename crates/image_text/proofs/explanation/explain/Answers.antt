@@ -1,53 +1,25 @@
--- `explain` prints the line of the number, and after it what the number asks for. The line takes at most 18 bytes, and what follows at most 8,000.
-use mathlib.Core.Path.{◌∙◌}
+-- `explain` prints into a new text. Bytes of another length are answered by their number alone.
+use mathlib.Core.Path.{◌≡◌, ap}
 use native.Mathlib.Omega.{arith}
-use Rattle.lists.proofs.Stores.{put_then, put_length}
-use Rattle.image_text.proofs.explanation.Numbers.{zero_whole_sound, four_whole, zero_said, four_named, others_alone}
-use Rattle.image_text.proofs.explanation.Rooms.{number_room, number_end}
+use borrow.Author.Rules.{rules}
+use lib.ListN.{length}
+use Rattle.text.proofs.Printing.{at_front}
+use Rattle.image_text.proofs.explanation.Numbers.{others_alone, other_length}
+use Rattle.image_text.proofs.explanation.Rooms.{number_room}
 use Rattle.image_text.proofs.explanation.explain.Goals as goal
+use Rattle.image_text.proofs.explanation.explain.Goals.{in-Ok, in-Err}
 
-pub put_number-end-requires : goal.put_number-end-requires
-put_number-end-requires c = omega (arith, number_room c.number-number.result (omega arith))
+pub put_number-requires : goal.put_number-requires
+put_number-requires c = omega (arith, number_room c.from.result (omega arith), ap length c.new-text.ensures.bytes)
 
-pub put_said-requires : goal.put_said-requires
-put_said-requires c =
+pub returns-clause-put : goal.returns-clause-put
+returns-clause-put c =
     let image = c.args.image.now in
-    let k = c.number-number in
-    let is = k.ensures ∙ c.image_answer.ensures in
-    let p = c.put_number-end.ensures in
-    let w = zero_whole_sound image k.result is (omega arith) in
-    (w.0, w.1, omega (arith, put_length p, number_end p (omega arith)))
-
-pub returns-then-number-eq0 : goal.returns-then-number-eq0
-returns-then-number-eq0 c =
-    let image = c.args.image.now in
-    let k = c.number-number in
-    let is = k.ensures ∙ c.image_answer.ensures in
-    let p = c.put_number-end.ensures in
-    let q = c.put_said.ensures in
-    record { put = rw (zero_said image k.result is c.if-number-eq0.true) (put_then p q.0); within = omega (arith, q.1, number_end p (omega arith)) }
-
-pub put_flaw-requires : goal.put_flaw-requires
-put_flaw-requires c =
-    let image = c.args.image.now in
-    let k = c.number-number in
-    let is = k.ensures ∙ c.image_answer.ensures in
-    let p = c.put_number-end.ensures in
-    (four_whole image k.result is c.if-number-eq4.true, omega (arith, put_length p, number_end p (omega arith)))
-
-pub returns-then-number-eq4 : goal.returns-then-number-eq4
-returns-then-number-eq4 c =
-    let image = c.args.image.now in
-    let k = c.number-number in
-    let is = k.ensures ∙ c.image_answer.ensures in
-    let p = c.put_number-end.ensures in
-    let q = c.put_flaw.ensures in
-    record { put = rw (four_named image k.result is c.if-number-eq4.true) (put_then p q.0); within = omega (arith, q.1, number_end p (omega arith)) }
-
-pub returns : goal.returns
-returns c =
-    let image = c.args.image.now in
-    let k = c.number-number in
-    let is = k.ensures ∙ c.image_answer.ensures in
-    let p = c.put_number-end.ensures in
-    record { put = rw (others_alone image k.result is c.if-number-eq0.false c.if-number-eq4.false) p; within = omega (arith, number_end p (omega arith)) }
+    elim c.match-try_from.branch [
+      | in-Ok w ↦
+          let e : w.in-Ok.image.now ≡ c.args.image.now = search rules in
+          rw w.text-is (at_front c.new-text.ensures.start c.new-text.ensures.bytes (rw e at w.put_explained.ensures.said))
+      | in-Err w ↦
+          let alone = others_alone image 2 (other_length image w.in-Err.ensures.1) (λ e. omega arith) (λ e. omega arith) in
+          rw (w.text-is, alone) (at_front c.new-text.ensures.start c.new-text.ensures.bytes (rw w.from.ensures at w.put_number.ensures))
+    ]

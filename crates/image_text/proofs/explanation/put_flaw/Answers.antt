@@ -1,20 +1,18 @@
--- `put_flaw` prints the line of the first clause that fails, by the part of the names that `span_of` gives.
-use mathlib.Core.Path.{ap, ◌∙◌}
 use native.Mathlib.Omega.{arith}
-use lib.ListN.{length}
-use Rattle.image_text.specs.Report.{clause_line}
-use Rattle.image_text.specs.Explanation.{flaw_name}
-use Rattle.image_text.proofs.explanation.Rooms.{named_part, clause_room}
+use Rattle.std.proofs.Common.{Some, None}
+use Rattle.image_text.proofs.explanation.Rooms.{clause_room}
 use Rattle.image_text.proofs.explanation.put_flaw.Goals as goal
 
 pub put_clause-requires : goal.put_clause-requires
-put_clause-requires c =
-    let k = c.span_of-span.ensures in
-    rw (named_part k) (omega (arith, clause_room k))
+put_clause-requires c = rw c.name.ensures (omega (arith, clause_room (Some c.in-Some.flaw)))
 
-pub returns : goal.returns
-returns c =
-    let named = c.span_of-span.ensures in
-    let p = c.put_clause.ensures in
-    let e = named_part named ∙ ap flaw_name c.first_flaw.ensures in
-    (rw e at p, omega (arith, p.place, ap length (ap clause_line (named_part named)), clause_room named))
+pub put_clause-requires-in-None : goal.put_clause-requires-in-None
+put_clause-requires-in-None c = omega (arith, clause_room None)
+
+pub returns-in-Some-clause-within : goal.returns-in-Some-clause-within
+returns-in-Some-clause-within c =
+    let p = rw c.name.ensures at c.put_clause.ensures in
+    omega (arith, p.put.place, clause_room (Some c.in-Some.flaw))
+
+pub returns-in-None-clause-within : goal.returns-in-None-clause-within
+returns-in-None-clause-within c = omega (arith, clause_room None)

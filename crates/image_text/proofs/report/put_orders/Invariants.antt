@@ -1,12 +1,7 @@
--- `put_orders` prints a line for each live order. The loop has printed those of the first `printed` orders, as rows.
-use Prim.Native.Nat.{◌≤◌, ◌-◌}
-use Rattle.model.specs.Lists.{concat, upward}
-use Rattle.lists.specs.Stored.{Put}
-use Rattle.image_text.proofs.report.Lengths.{order_row}
+-- The lines so far are printed.
+use Rattle.text.proofs.PrintedRows.{Rows}
+use Rattle.image_text.specs.Report.{order_line}
 use Rattle.image_text.proofs.report.put_orders.Given as goal
 
-abbrev pub invariant-loop-printed : goal.invariant-loop-printed
-invariant-loop-printed l = (l.printed ≤ l.live) × Put l.initial.out l.at (concat (upward 0 l.printed (order_row l.n l.orders))) l.end l.out
-
-abbrev pub decreases-loop-printed : goal.decreases-loop-printed
-decreases-loop-printed l = l.live - l.printed
+abbrev pub invariant-loop-o : goal.invariant-loop-o
+invariant-loop-o l = Rows (λ k. order_line l.n) l.orders l.fn.text l.o-index l.text

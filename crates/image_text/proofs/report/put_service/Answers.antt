@@ -1,34 +1,32 @@
--- `put_service` prints what a station serves, by the same test as the definition.
-use mathlib.Core.Path.{ap}
+-- An entry is idle where it is the default, (0, 0).
+use mathlib.Core.Path.{◌≡◌, ◌∙◌}
 use native.Mathlib.Omega.{arith}
-use lib.ListN.{length}
 use Rattle.model.specs.Soundness.{is_idle}
-use Rattle.lists.proofs.Stores.{put_then}
+use Rattle.text.proofs.Printing.{◌then◌}
 use Rattle.image_text.proofs.report.Lengths.{words_idle, words_busy, length_busy}
 use Rattle.image_text.proofs.report.put_service.Goals as goal
 
-pub put_bytes-requires : goal.put_bytes-requires
+pub returns-then-eq : goal.returns-then-eq
 unfolding is_idle
-put_bytes-requires c =
-    let e = c.args.e in
-    omega (arith, ap length (words_idle e c.if-e.true))
+returns-then-eq c =
+    let e : is_idle c.args.e ≡ c.eq.result = rw (c.eq.ensures, c.default.ensures.0, c.default.ensures.1) in
+    rw (words_idle _ (e ∙ c.if-eq.true)) c.bytes.ensures
 
-pub returns-then-e : goal.returns-then-e
+pub figure-requires : goal.figure-requires
 unfolding is_idle
-returns-then-e c =
-    let e = c.args.e in
-    rw (words_idle e c.if-e.true) c.put_bytes.ensures
+figure-requires c =
+    let e : is_idle c.args.e ≡ c.eq.result = rw (c.eq.ensures, c.default.ensures.0, c.default.ensures.1) in
+    rw c.from.ensures (omega (arith, length_busy c.args.e (e ∙ c.if-eq.false)))
 
-pub put_figure-end-requires : goal.put_figure-end-requires
+pub figure-requires-2 : goal.figure-requires-2
 unfolding is_idle
-put_figure-end-requires c = omega (arith, length_busy c.args.e c.if-e.false)
-
-pub put_figure-requires : goal.put_figure-requires
-unfolding is_idle
-put_figure-requires c = omega (arith, length_busy c.args.e c.if-e.false)
+figure-requires-2 c =
+    let e : is_idle c.args.e ≡ c.eq.result = rw (c.eq.ensures, c.default.ensures.0, c.default.ensures.1) in
+    let first = rw c.from.ensures at c.figure.ensures in
+    rw c.from-2.ensures (omega (arith, length_busy c.args.e (e ∙ c.if-eq.false), first.put.place, first.room))
 
 pub returns : goal.returns
 unfolding is_idle
 returns c =
-    rw (words_busy c.args.e c.if-e.false)
-    (put_then c.put_figure-end.ensures c.put_figure.ensures)
+    let e : is_idle c.args.e ≡ c.eq.result = rw (c.eq.ensures, c.default.ensures.0, c.default.ensures.1) in
+    rw (words_busy _ (e ∙ c.if-eq.false), ← c.from.ensures, ← c.from-2.ensures) (c.figure.ensures then c.figure-2.ensures)

@@ -1,25 +1,18 @@
 use native.Mathlib.Omega.{arith}
-use borrow.Author.Rules.{rules}
-use Rattle.lists.proofs.Stores.{put_length}
-use Rattle.text.proofs.Rows.{printed_none, printed_more, printed_all, printed_room}
-use Rattle.image_text.proofs.report.Lengths.{station_row, station_rows}
+use Rattle.text.proofs.PrintedRows.{rows_none, rows_more, rows_room, rows_all}
+use Rattle.image_text.specs.Report.{station_lines}
 use Rattle.image_text.proofs.report.put_stations.Goals as goal
 
 pub loop-i-init : goal.loop-i-init
-loop-i-init c = (omega arith, printed_none _ _ _)
+loop-i-init c = rows_none _ _ _
 
-pub put_station-end-requires : goal.put_station-end-requires
-put_station-end-requires c =
-    let a = c.args in
-    printed_room (station_row a.services) a.n c.loop-i.invariant.1 (omega arith) (rw (station_rows a.n a.services (search rules)) at c.requires.1)
+pub put_station-requires : goal.put_station-requires
+unfolding station_lines
+put_station-requires c = rows_room _ c.loop-i.invariant (omega arith) c.requires
 
 pub loop-i-preserved : goal.loop-i-preserved
-loop-i-preserved c = (omega arith, printed_more _ c.loop-i.invariant.1 c.put_station-end.ensures)
-
-pub shape_of-out : goal.shape_of-out
-shape_of-out c = put_length c.loop-i.invariant.1
+loop-i-preserved c = rows_more _ c.loop-i.invariant c.put_station.ensures (omega arith)
 
 pub returns : goal.returns
-returns c =
-    let a = c.args in
-    rw (station_rows a.n a.services (search rules)) (printed_all _ (omega arith) c.loop-i.invariant.1)
+unfolding station_lines
+returns c = rows_all c.loop-i.invariant (omega arith)

@@ -1,12 +1,7 @@
--- `put_stations` prints a line for each station in use. The loop has printed those of the first i stations, as rows.
-use Prim.Native.Nat.{◌≤◌, ◌-◌}
-use Rattle.model.specs.Lists.{concat, upward}
-use Rattle.lists.specs.Stored.{Put}
-use Rattle.image_text.proofs.report.Lengths.{station_row}
+-- The lines so far are printed.
+use Rattle.text.proofs.PrintedRows.{Rows}
+use Rattle.image_text.specs.Report.{station_line}
 use Rattle.image_text.proofs.report.put_stations.Given as goal
 
 abbrev pub invariant-loop-i : goal.invariant-loop-i
-invariant-loop-i l = (l.i ≤ l.n) × Put l.initial.out l.at (concat (upward 0 l.i (station_row l.services))) l.end l.out
-
-abbrev pub decreases-loop-i : goal.decreases-loop-i
-decreases-loop-i l = l.n - l.i
+invariant-loop-i l = Rows station_line l.services l.fn.text l.i l.text

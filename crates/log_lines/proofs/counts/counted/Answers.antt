@@ -1,28 +1,19 @@
-use mathlib.Core.Path.{◌≡◌, ◌∙◌}
-use Prim.Native.Nat.{◌≤◌}
+-- One station more is counted, or keeps its ticks.
+use mathlib.Core.Path.{◌∙◌}
 use native.Mathlib.Numerals.{add-one}
-use native.Mathlib.Omega.{arith}
-use lib.ListN.{length}
 use lib.Seq.{take_all}
 use borrow.Author.Rules.{rules}
 use Rattle.log_lines.proofs.counts.CountLaws.{counted_none, counted_next}
 use Rattle.log_lines.proofs.counts.counted.Goals as goal
-use Rattle.log_lines.proofs.counts.counted.Goals.{then-here-k, else-here-k}
+use Rattle.log_lines.proofs.counts.counted.Goals.{then-here, else-here}
 
 pub loop-k-init : goal.loop-k-init
-loop-k-init c = (omega arith, counted_none _)
+loop-k-init c = counted_none _
 
 pub loop-k-preserved : goal.loop-k-preserved
 loop-k-preserved c =
-    let a = c.args in
-    let loop = c.loop-k in
-    let long : length a.here ≡ 8 = search rules in
-    let next = counted_next a.here a.busy loop.k (omega arith) in
-    (omega arith, rw (add-one, next, ← loop.invariant.1) (elim c.if-here-k.branch [ then-here-k w ↦ w.list-is ∙ rw (w.if-here-k.true, w.one_more.ensures) | else-here-k w ↦ w.list-is ∙ rw w.if-here-k.false ]))
+    let next = counted_next c.args.here c.args.busy c.loop-k.k (search rules) in
+    rw (add-one, next, ← c.loop-k.invariant) (elim c.if-here.branch [ then-here w ↦ w.busy-is ∙ rw (w.if-here.true, w.one_more.ensures) | else-here w ↦ w.busy-is ∙ rw w.if-here.false ])
 
 pub returns : goal.returns
-returns c =
-    let a = c.args in
-    let long : length a.here ≡ 8 = search rules in
-    let whole : length a.here ≤ c.loop-k.k = omega arith in
-    c.loop-k.invariant.1 ∙ rw (take_all c.loop-k.k a.here)
+returns c = c.loop-k.invariant ∙ rw (take_all c.loop-k.k c.args.here (search rules))

@@ -1,26 +1,17 @@
-use native.Mathlib.Omega.{arith}
-use borrow.Author.Rules.{rules}
-use Rattle.lists.proofs.Stores.{put_length}
-use Rattle.text.proofs.Rows.{printed_none, printed_more, printed_all, printed_room}
-use Rattle.log_reader.proofs.print.Lengths.{station_row, station_rows}
+use Rattle.text.proofs.PrintedRows.{rows_none, rows_room, rows_more, rows_all}
+use Rattle.log_reader.specs.Printed.{station_lines}
 use Rattle.log_reader.proofs.print.put_stations.Goals as goal
 
 pub loop-i-init : goal.loop-i-init
-loop-i-init c = (omega arith, printed_none _ _ _)
+loop-i-init c = rows_none _ _ _
 
-pub put_station-end-requires : goal.put_station-end-requires
-put_station-end-requires c =
-    let a = c.args in
-    let room = rw (station_rows a.all a.n a.busy (search rules)) at c.requires.1 in
-    printed_room (station_row a.all a.busy) a.n c.loop-i.invariant.1 (omega arith) room
+pub put_station-requires : goal.put_station-requires
+unfolding station_lines
+put_station-requires c = rows_room 0 c.loop-i.invariant c.loop-i-test.true c.requires.1
 
 pub loop-i-preserved : goal.loop-i-preserved
-loop-i-preserved c = (omega arith, printed_more _ c.loop-i.invariant.1 c.put_station-end.ensures)
-
-pub shape_of-out : goal.shape_of-out
-shape_of-out c = put_length c.loop-i.invariant.1
+loop-i-preserved c = rows_more 0 c.loop-i.invariant c.put_station.ensures c.loop-i-test.true
 
 pub returns : goal.returns
-returns c =
-    let a = c.args in
-    rw (station_rows a.all a.n a.busy (search rules)) (printed_all _ (omega arith) c.loop-i.invariant.1)
+unfolding station_lines
+returns c = rows_all c.loop-i.invariant c.loop-i-test.false

@@ -1,12 +1,7 @@
--- `put_stations` prints a line for each of the first stations. The loop has printed those of the first i, as rows.
-use Prim.Native.Nat.{◌≤◌, ◌-◌}
-use Rattle.model.specs.Lists.{concat, upward}
-use Rattle.lists.specs.Stored.{Put}
-use Rattle.log_reader.proofs.print.Lengths.{station_row}
+-- `put_stations` prints a row for each station: the loop has printed the first i.
+use Rattle.text.proofs.PrintedRows.{Rows}
+use Rattle.log_model.specs.Output.{station_line}
 use Rattle.log_reader.proofs.print.put_stations.Given as goal
 
 abbrev pub invariant-loop-i : goal.invariant-loop-i
-invariant-loop-i l = (l.i ≤ l.n) × Put l.initial.out l.at (concat (upward 0 l.i (station_row l.all l.busy))) l.end l.out
-
-abbrev pub decreases-loop-i : goal.decreases-loop-i
-decreases-loop-i l = l.n - l.i
+invariant-loop-i l = Rows (station_line l.all) l.busy l.initial.text l.i l.text

@@ -1,54 +1,43 @@
--- A decline has no steps; a done plan has as many as records, which the array has.
+-- Each question that is passed, and the first that is not.
 use mathlib.Core.Path.{◌≡◌, sym, ◌∙◌}
-use Prim.Native.Nat.{min}
-use native.Mathlib.Nat.{min-eq_left}
-use native.Mathlib.Omega.{arith}
-use lib.ListN.{length}
 use borrow.Author.Rules.{rules}
-use borrow.Author.Tests.{ne_eqb}
+use lib.ListN.{length}
+use Rattle.std.proofs.Common.{tests}
+use Rattle.std.proofs.lemmas.Result.{err_from_is_err_and}
 use Rattle.model.specs.Limits.{max_stations}
+use Rattle.model.specs.Lists.{within}
 use Rattle.plan_model.specs.Limits.{max_tasks}
-use Rattle.plan_core.specs.Table.{table_to}
-use Rattle.plan_core.specs.ByValue.{number_of, outcome_of}
-use Rattle.plan_core.proofs.by_value.Passing.{passed}
-use Rattle.plan_core.proofs.figures.Ranging.{table_ranged}
+use Rattle.plan_core.specs.ByValue.{figures, core_of}
+use Rattle.plan_core.proofs.figures.Same.{figures_same}
 use Rattle.plan_core.proofs.by_value.core.Goals as goal
 
-pub returns-then-number-ne0 : goal.returns-then-number-ne0
-unfolding outcome_of
-returns-then-number-ne0 c =
-    let a = c.args in
-    let number = c.number-number in
-    let e : number.result ≡ number_of a.n a.count (table_to (min a.n max_stations) (min a.count max_tasks) a.tasks).in_range =
-    number.ensures ∙ rw (c.table_of-t.ensures, c.in_record.ensures.0, c.held.ensures.0) in
-    (rw (← e, ne_eqb number.result 0 c.if-number-ne0.true), omega arith, omega arith)
+pub returns-then-not-contains : goal.returns-then-not-contains
+unfolding core_of
+returns-then-not-contains c =
+    let stations : c.contains.result ≡ within 1 max_stations c.args.n = search (rules, tests) in
+    rw (sym stations ∙ c.if-not-contains.true)
 
-pub figures-figures-requires : goal.figures-figures-requires
-figures-figures-requires c =
-    let a = c.args in
-    let table = c.table_of-t in
-    let record_of = c.in_record in
-    let held = c.held in
-    let p = passed a.n a.count _ (sym c.number-number.ensures ∙ c.if-number-ne0.false) in
-    let all : held.result ≡ a.count = held.ensures.0 ∙ min-eq_left p.count_high in
-    let long : length a.tasks ≡ 32 = search rules in
-    let is : table.result ≡ table_to record_of.result a.count a.tasks = rw all at table.ensures in
-    (p.count_high, rw is (table_ranged record_of.result a.count a.tasks record_of.ensures.1 (omega arith) (rw is at p.ranged)))
+pub returns-then-not-contains-2 : goal.returns-then-not-contains-2
+unfolding core_of
+returns-then-not-contains-2 c =
+    let stations : c.contains.result ≡ within 1 max_stations c.args.n = search (rules, tests) in
+    let count : c.contains-2.result ≡ within 1 max_tasks (length c.args.tasks.now) = search (rules, tests) in
+    rw (sym stations ∙ c.if-not-contains.false, sym count ∙ c.if-not-contains-2.true)
 
-pub fill_tasks-filled-requires : goal.fill_tasks-filled-requires
-fill_tasks-filled-requires c =
-    let a = c.args in
-    (passed a.n a.count _ (sym c.number-number.ensures ∙ c.if-number-ne0.false)).count_high
+pub returns-in_err-table : goal.returns-in_err-table
+unfolding core_of
+returns-in_err-table c =
+    let stations : c.contains.result ≡ within 1 max_stations c.args.n = search (rules, tests) in
+    let count : c.contains-2.result ≡ within 1 max_tasks (length c.args.tasks.now) = search (rules, tests) in
+    let p = err_from_is_err_and c.from_residual.result c.from_residual.ensures.1 in
+    rw (p.1, p.2, c.in_err-table.ensures.0, sym stations ∙ c.if-not-contains.false, sym count ∙ c.if-not-contains-2.false, c.in_err-table.ensures.1)
 
 pub returns : goal.returns
-unfolding outcome_of
+unfolding core_of
 returns c =
-    let a = c.args in
-    let number = c.number-number in
-    let table = c.table_of-t in
-    let p = passed a.n a.count _ (sym number.ensures ∙ c.if-number-ne0.false) in
-    let is : table.result ≡ table_to (min a.n max_stations) (min a.count max_tasks) a.tasks =
-    rw (table.ensures, c.in_record.ensures.0, c.held.ensures.0) in
-    let zero : number_of a.n a.count (table_to (min a.n max_stations) (min a.count max_tasks) a.tasks).in_range ≡ 0 =
-    rw is at (sym number.ensures ∙ c.if-number-ne0.false) in
-    (rw (zero, c.fill_tasks-filled.ensures, c.figures-figures.ensures, is), omega arith, p.count_high)
+    let stations : c.contains.result ≡ within 1 max_stations c.args.n = search (rules, tests) in
+    let count : c.contains-2.result ≡ within 1 max_tasks (length c.args.tasks.now) = search (rules, tests) in
+    let table = c.in_ok-table.ensures in
+    let same : c.figures.result.items ≡ figures c.args.n c.args.tasks.now =
+    c.figures.ensures ∙ rw (table.1, table.2) (figures_same c.args.n c.args.tasks.now) in
+    rw (sym stations ∙ c.if-not-contains.false, sym count ∙ c.if-not-contains-2.false, table.0, ← same)

@@ -1,18 +1,12 @@
-use mathlib.Core.Path.{◌≡◌, refl, sym}
-use native.Mathlib.Omega.{arith}
-use lib.ListN.{length}
+use mathlib.Core.Path.{◌≡◌}
 use borrow.Author.Rules.{rules}
+use Rattle.std.proofs.Common.{tests}
+use Rattle.std.proofs.lemmas.Iterator.{YieldsList-from_slice}
+use Rattle.std.proofs.lemmas.Iterator.Search.{all_from_yields_List}
 use Rattle.model.specs.Limits.{max_cost}
-use Rattle.model.specs.Lists.{within, all}
-use Rattle.lists.proofs.Tests.{all-next}
+use Rattle.model.specs.Lists.{within}
+use Rattle.lists.proofs.Library.{all_list}
 use Rattle.plan_core.proofs.costs.costs_in_range.Goals as goal
 
-pub loop-k-init : goal.loop-k-init
-unfolding all
-loop-k-init c = (omega arith, refl)
-
-pub loop-k-preserved : goal.loop-k-preserved
-loop-k-preserved c =
-    let row = c.args.costs in
-    let long : length row ≡ 8 = search rules in
-    (omega arith, rw c.loop-k.invariant.1 (sym (all-next (within 1 max_cost) 0 row c.loop-k.k (omega arith))))
+pub returns : goal.returns
+returns c = rw (all_list (within 1 max_cost)) (all_from_yields_List (within 1 max_cost) _ _ _ c.all.ensures.ran (YieldsList-from_slice c.args.costs.now cc) (λ x b q k. search (rules, tests)))

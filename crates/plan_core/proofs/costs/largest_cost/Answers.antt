@@ -1,17 +1,6 @@
-use mathlib.Core.Path.{◌≡◌, refl, sym, ◌∙◌}
-use native.Mathlib.Omega.{arith}
-use lib.ListN.{length}
 use borrow.Author.Rules.{rules}
-use Rattle.model.specs.Lists.{largest}
-use Rattle.lists.proofs.Tests.{largest_more}
+use Rattle.lists.proofs.Library.{largest_fold}
 use Rattle.plan_core.proofs.costs.largest_cost.Goals as goal
 
-pub loop-k-init : goal.loop-k-init
-unfolding largest
-loop-k-init c = (omega arith, refl)
-
-pub loop-k-preserved : goal.loop-k-preserved
-loop-k-preserved c =
-    let row = c.args.costs in
-    let long : length row ≡ 8 = search rules in
-    (omega arith, c.larger-top.ensures ∙ rw c.loop-k.invariant.1 (sym (largest_more row c.loop-k.k (omega arith))))
+pub returns : goal.returns
+returns c = rw largest_fold (search rules)

@@ -1,15 +1,30 @@
--- The array that the core is passed has the first records of the list, and the laws of `by_value` turn what the core ensures into plan's number and the list that it leaves.
-use mathlib.Core.Path.{◌≡◌, ap, ◌∙◌}
-use Rattle.plan_core.specs.declared.by_value.Outcome.{Outcome}
-use Rattle.plan_core.specs.ByValue.{held_of, plan_of, left_by}
-use Rattle.plan_core.proofs.by_value.Laws.{plan_number_lem, plan_left}
+-- The figures are those of a done plan, and the walk puts them into the records; a decline does not come to it.
+use mathlib.Core.Path.{◌≡◌, ◌∙◌}
+use native.Mathlib.Omega.{arith}
+use lib.ListN.{length}
+use Rattle.plan_core.proofs.by_value.Laws.{done, refused, done_left, refused_left}
+use Rattle.plan_core.proofs.lent.Walk.{walked_all, walked_next, length-figures}
 use Rattle.plan_core.proofs.lent.plan.Goals as goal
 
+pub returns-in-Err : goal.returns-in-Err
+returns-in-Err c =
+    let n = c.args.n in
+    let tasks = c.args.tasks.now in
+    (c.from.ensures ∙ refused n tasks c.in-Err.refusal c.in-Err.ensures, refused_left n tasks c.in-Err.refusal c.in-Err.ensures)
+
+pub bounds-figures-i : goal.bounds-figures-i
+bounds-figures-i c =
+    let is = c.as_slice-figures.ensures.value ∙ (done c.args.n c.args.tasks.now c.in-Ok.figures c.in-Ok.ensures).1 in
+    rw is (omega (arith, length-figures c.args.n c.args.tasks.now))
+
+pub loop-i-preserved : goal.loop-i-preserved
+loop-i-preserved c =
+    let is = c.as_slice-figures.ensures.value ∙ (done c.args.n c.args.tasks.now c.in-Ok.figures c.in-Ok.ensures).1 in
+    rw (c.fill_task.ensures, c.loop-i.invariant) (walked_next c.args.n c.args.tasks.now c.loop-i.i (omega arith) _ is)
+
 pub returns : goal.returns
-unfolding held_of plan_of left_by
 returns c =
     let n = c.args.n in
-    let xs = c.args.tasks.now in
-    let array : c.copy.new.to ≡ held_of xs = c.copy.ensures.1 ∙ rw (c.held-held.ensures.0, c.no_tasks-list.ensures) in
-    let e : c.core-outcome.result ≡ plan_of n xs = c.core-outcome.ensures.0 ∙ rw array in
-    (ap (λ (r : Outcome). r.number) e ∙ plan_number_lem n xs, c.copy-2.ensures.1 ∙ rw (e, c.copy.ensures.0) (plan_left n xs))
+    let tasks = c.args.tasks.now in
+    let fs = c.in-Ok.figures in
+    ((done n tasks fs c.in-Ok.ensures).0, c.loop-i.invariant ∙ walked_all n tasks c.loop-i.i (omega arith) ∙ done_left n tasks fs c.in-Ok.ensures)

@@ -4,4 +4,4 @@ use Rattle.plan_core.proofs.records.fill_task.Goals as goal
 
 pub returns : goal.returns
 unfolding with_figures
-returns c = rw c.verdict-verdict.ensures
+returns c = rw c.verdict-x.ensures

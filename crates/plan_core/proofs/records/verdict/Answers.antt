@@ -4,10 +4,10 @@ use native.Mathlib.Omega.{arith}
 use Rattle.plan_model.specs.Response.{verdict_of}
 use Rattle.plan_core.proofs.records.verdict.Goals as goal
 
-pub returns-then-deadline-response : goal.returns-then-deadline-response
+pub returns-then-from-response : goal.returns-then-from-response
 unfolding verdict_of
-returns-then-deadline-response c = rw (le-leb c.args.deadline c.args.response (omega arith))
+returns-then-from-response c = rw (le-leb c.args.deadline c.args.response (omega arith))
 
-pub returns : goal.returns
+pub returns-else-from-response : goal.returns-else-from-response
 unfolding verdict_of
-returns c = rw (lt-leb c.args.deadline c.args.response (omega arith))
+returns-else-from-response c = rw (lt-leb c.args.deadline c.args.response (omega arith))

@@ -1,38 +1,39 @@
 -- The questions in turn, of the first line and of what follows it.
-use mathlib.Core.Path.{◌∙◌}
+use mathlib.Core.Path.{◌≡◌, sym, ◌∙◌}
 use native.Mathlib.Omega.{arith}
 use borrow.Author.Rules.{rules}
-use Rattle.text.proofs.parts.PartLaws.{ended}
-use Rattle.plan_text.proofs.words.WordLaws.{was_number, was_malformed}
-use Rattle.plan_text.proofs.input.InputLaws.{too_long, no_first_line, no_number, out_of_range_lem, stations_read}
+use Rattle.std.proofs.Common.{Some, None, tests}
+use Rattle.std.proofs.lemmas.Result.{err_from_is_err_and}
+use Rattle.model.specs.Limits.{max_stations}
+use Rattle.model.specs.Lists.{within}
+use Rattle.plan_text.specs.declared.answer.Form.TheVariants.{NotStations}
+use Rattle.plan_text.proofs.input.InputLaws.{too_long, no_first_line, no_number, out_of_range_lem, tasks_read}
 use Rattle.plan_text.proofs.input.parse.Goals as goal
 
 pub returns-then-input-gt-MAX_INPUT : goal.returns-then-input-gt-MAX_INPUT
-returns-then-input-gt-MAX_INPUT c = c.refused.ensures ∙ too_long _ (omega arith)
-
-pub returns-then-end-input : goal.returns-then-end-input
-returns-then-end-input c =
-    let line = ended _ _ _ (search rules) c.part_end-end.ensures in
-    c.refused-then-end-input.ensures ∙ no_first_line _ (omega arith) line (omega arith)
-
-pub slice_bounds-value_of-end : goal.slice_bounds-value_of-end
-slice_bounds-value_of-end c =
-    let line = ended _ _ _ (search rules) c.part_end-end.ensures in
-    search rules
+returns-then-input-gt-MAX_INPUT c = too_long _ (omega arith)
 
 pub returns-in_default : goal.returns-in_default
 returns-in_default c =
-    let line = ended _ _ _ (search rules) c.part_end-end.ensures in
-    c.refused-in_default.ensures ∙ no_number _ (omega arith) line (omega arith) (was_malformed _ c.value_of.ensures c.in_default.is)
+    let none : c.first_part.result.1 ≡ None = search rules in
+    no_first_line _ (omega arith) _ (rw none at c.first_part.ensures.split)
 
-pub returns-then-n : goal.returns-then-n
-returns-then-n c =
-    let line = ended _ _ _ (search rules) c.part_end-end.ensures in
-    let n = was_number _ c.value_of.ensures c.in-Number.is in
-    c.refused-then-n.ensures ∙ out_of_range_lem _ (omega arith) line (omega arith) n.1 c.if-n.true
+pub returns-in_err-n : goal.returns-in_err-n
+returns-in_err-n c =
+    let p = err_from_is_err_and c.from_residual.result c.from_residual.ensures.1 in
+    let none = c.in_err-n.ensures.ok_part in
+    let said = rw none at c.in_err-n.ensures.value in
+    let e : c.in_err-n.field-0.0 ≡ NotStations = cc in
+    rw (p.1, p.2, e) (no_number _ (omega arith) _ _ (rw c.in_default-Some.is-1 at c.first_part.ensures.split) (rw none at c.number_of.ensures))
+
+pub returns-then-not-contains : goal.returns-then-not-contains
+returns-then-not-contains c =
+    let inside : c.contains.result ≡ within 1 max_stations c.in_ok-n.n = search (rules, tests) in
+    let number = rw c.in_ok-n.ensures.ok_part at c.number_of.ensures in
+    out_of_range_lem _ (omega arith) _ _ (rw c.in_default-Some.is-1 at c.first_part.ensures.split) _ number (sym inside ∙ c.if-not-contains.true)
 
 pub returns : goal.returns
 returns c =
-    let line = ended _ _ _ (search rules) c.part_end-end.ensures in
-    let n = was_number _ c.value_of.ensures c.in-Number.is in
-    c.read_tasks.ensures ∙ stations_read _ (omega arith) line (omega arith) n.1 n.0 c.if-n.false
+    let inside : c.contains.result ≡ within 1 max_stations c.in_ok-n.n = search (rules, tests) in
+    let number = rw c.in_ok-n.ensures.ok_part at c.number_of.ensures in
+    rw (c.read_tasks.ensures, c.in_default-Some.rest-is) (tasks_read _ (omega arith) _ _ (rw c.in_default-Some.is-1 at c.first_part.ensures.split) _ number (sym inside ∙ c.if-not-contains.false))

@@ -1,35 +1,27 @@
 -- `put_line` prints the line of one task: its number, its base, its response and its verdict.
 use native.Mathlib.Omega.{arith}
-use Rattle.lists.proofs.Stores.{put_then}
 use Rattle.plan_model.specs.Output.{task_line}
+use Rattle.text.proofs.Printing.{◌then◌}
 use Rattle.plan_text.proofs.output.Lengths.{length_line}
 use Rattle.plan_text.proofs.output.put_line.Goals as goal
 
-pub put_field-a-requires : goal.put_field-a-requires
-put_field-a-requires c =
-    let a = c.args in
-    omega (arith, length_line a.k a.t)
+pub put_field-requires : goal.put_field-requires
+put_field-requires c = omega (arith, length_line c.args.k c.args.t.now)
 
-pub put_field-b-requires : goal.put_field-b-requires
-put_field-b-requires c =
-    let a = c.args in
-    omega (arith, length_line a.k a.t)
+pub put_field-requires-2 : goal.put_field-requires-2
+put_field-requires-2 c = rw c.from.ensures (omega (arith, length_line c.args.k c.args.t.now, c.put_field.ensures.put.place, c.put_field.ensures.room))
 
-pub put_field-c-requires : goal.put_field-c-requires
-put_field-c-requires c =
-    let a = c.args in
-    omega (arith, length_line a.k a.t)
+pub put_field-requires-3 : goal.put_field-requires-3
+put_field-requires-3 c =
+    let second = rw c.from.ensures at c.put_field-2.ensures in
+    omega (arith, length_line c.args.k c.args.t.now, c.put_field.ensures.put.place, c.put_field.ensures.room, second.put.place, second.room)
 
 pub put_verdict-requires : goal.put_verdict-requires
 put_verdict-requires c =
-    let a = c.args in
-    omega (arith, length_line a.k a.t)
+    let second = rw c.from.ensures at c.put_field-2.ensures in
+    let third = c.put_field-3.ensures in
+    omega (arith, length_line c.args.k c.args.t.now, c.put_field.ensures.put.place, c.put_field.ensures.room, second.put.place, second.room, third.put.place, third.room)
 
 pub returns : goal.returns
 unfolding task_line
-returns c =
-    put_then
-    (put_then
-    (put_then c.put_field-a.ensures c.put_field-b.ensures)
-    c.put_field-c.ensures)
-    c.put_verdict.ensures
+returns c = ((c.put_field.ensures then (rw c.from.ensures at c.put_field-2.ensures)) then c.put_field-3.ensures) then c.put_verdict.ensures

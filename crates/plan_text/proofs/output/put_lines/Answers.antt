@@ -1,22 +1,19 @@
 use native.Mathlib.Omega.{arith}
-use borrow.Author.Rules.{rules}
-use Rattle.text.proofs.Rows.{printed_none, printed_more, printed_all, printed_room}
+use Rattle.text.proofs.PrintedRows.{rows_none, rows_more, rows_room, rows_all}
 use Rattle.plan_model.specs.Records.{beyond}
-use Rattle.plan_text.proofs.output.Lengths.{task_row, task_rows}
+use Rattle.plan_model.specs.Output.{task_lines}
 use Rattle.plan_text.proofs.output.put_lines.Goals as goal
 
 pub loop-i-init : goal.loop-i-init
-loop-i-init c = (omega arith, printed_none _ _ _)
+loop-i-init c = rows_none _ _ _
 
-pub put_line-end-requires : goal.put_line-end-requires
-put_line-end-requires c =
-    let a = c.args in
-    printed_room (task_row beyond a.tasks) a.count c.loop-i.invariant.1 (omega arith) (rw (task_rows beyond a.count a.tasks (search rules)) at c.requires.1)
+pub put_line-requires : goal.put_line-requires
+unfolding task_lines
+put_line-requires c = rows_room beyond c.loop-i.invariant (omega arith) c.requires
 
 pub loop-i-preserved : goal.loop-i-preserved
-loop-i-preserved c = (omega arith, printed_more _ c.loop-i.invariant.1 c.put_line-end.ensures)
+loop-i-preserved c = rows_more beyond c.loop-i.invariant c.put_line.ensures (omega arith)
 
 pub returns : goal.returns
-returns c =
-    let a = c.args in
-    rw (task_rows beyond a.count a.tasks (search rules)) (printed_all _ (omega arith) c.loop-i.invariant.1)
+unfolding task_lines
+returns c = rows_all c.loop-i.invariant (omega arith)

@@ -1,11 +1,11 @@
--- The invariant: the first lines have the form, and their tasks stand in the array; the rest of the input begins at `at`.
-use Prim.Native.Nat.{◌-◌}
+-- The lines so far have the form, and their tasks stand at the front of the array.
 use lib.ListN.{length}
-use Rattle.plan_text.proofs.task_lines.TableLaws.{Rows}
+use Rattle.text.specs.Parts.{line_feed, parts}
+use Rattle.plan_text.proofs.task_lines.TableLaws.{Reading}
 use Rattle.plan_text.proofs.task_lines.read_tasks.Given as goal
 
-abbrev pub invariant-loop-at : goal.invariant-loop-at
-invariant-loop-at l = Rows l.n l.input l.start l.tasks l.count l.at
+abbrev pub invariant-loop-line : goal.invariant-loop-line
+invariant-loop-line l = Reading l.n (parts line_feed l.input) l.tasks l.count (parts line_feed l.left)
 
-abbrev pub decreases-loop-at : goal.decreases-loop-at
-decreases-loop-at l = length l.input - l.at
+abbrev pub decreases-loop-line : goal.decreases-loop-line
+decreases-loop-line l = length l.left

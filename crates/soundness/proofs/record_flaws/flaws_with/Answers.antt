@@ -1,29 +1,17 @@
-use mathlib.Core.Path.{◌≡◌}
-use Prim.Native.Nat.{ℕ}
-use native.Mathlib.Omega.{arith}
-use lib.ListN.{length, length-set, get_or}
-use mir.Syntax.{w16}
-use mir.Val.{Fits}
-use borrow.Author.Rules.{rules}
-use Rattle.lists.proofs.Fills.{fill_start, fill_next}
-use Rattle.soundness.proofs.record_flaws.FlawLaws.{gathered_all}
+-- Each place has what is gathered there.
+use Rattle.std.proofs.Common.{◌≡◌, ℕ, ◌∙◌, length, get_or, rules, Fits, w16}
+use Rattle.lists.proofs.Arrays.{filled_same}
+use Rattle.soundness.proofs.record_flaws.FlawLaws.{gathered, gathered_all, narrowed}
 use Rattle.soundness.proofs.record_flaws.flaws_with.Goals as goal
-
-pub loop-k-init : goal.loop-k-init
-loop-k-init c = (omega arith, search rules, fill_start _)
-
-pub loop-k-preserved : goal.loop-k-preserved
-loop-k-preserved c =
-    let inv = c.loop-k.invariant in (omega arith, simp length-set inv.1, fill_next _ _ _ _ (omega arith) inv.2 (rw c.flaw_at.ensures))
 
 pub returns : goal.returns
 returns c =
-    let inv = c.loop-k.invariant in
     let o = c.args.o in
+    let l = c.args.l in
     let flaws = c.args.flaws in
     let eight : length flaws ≡ 8 = search rules in
-    let long : length o.costs ≡ 8 = search rules in
-    let high : length o.maxima ≡ 8 = search rules in
-    let small : (i : ℕ) → Fits w16 (get_or o.costs i 0) = λ i. search rules in
-    let e : c.loop-k.k ≡ 8 = omega arith in
-    gathered_all c.requires o long high (λ i. (small i).fits) flaws c.loop-k.row eight c.narrow-sum.ensures inv.1 (rw e at inv.2)
+    let long : length o.costs ≡ 8 = search (rules, c.well_formed.1.1.0) in
+    let tall : length o.maxima ≡ 8 = search (rules, c.well_formed.1.1.0) in
+    let small : (i : ℕ) → Fits w16 (get_or o.costs i 0) = λ i. search (rules, c.well_formed.1.1.0) in
+    gathered_all l.n l.made.0 l.made.1 l.made.2 o long tall (λ i. (small i).fits) flaws _ eight (c.unwrap_or-sum.ensures ∙ narrowed _ o.sum c.try_from.ensures)
+    (filled_same (gathered flaws l.least l.most o.costs o.maxima _) (λ i y q low k. search rules) c.from_fn.ensures.items)

@@ -1,26 +1,14 @@
-use mathlib.Core.Path.{◌≡◌, refl, ap, ◌∙◌}
-use native.Mathlib.Omega.{arith}
-use lib.ListN.{length, length-set}
-use borrow.Author.Rules.{rules}
-use Rattle.model.specs.Soundness.{zero_beyond}
-use Rattle.lists.proofs.Fills.{fill_start, fill_next, fill_end}
-use Rattle.soundness.proofs.record_flaws.FlawLaws.{overlaid_beyond}
+-- Each place has both ranks.
+use Rattle.std.proofs.Common.{◌≡◌, length, get_or, rules, bit_or}
+use Rattle.lists.proofs.Arrays.{filled_same}
+use Rattle.soundness.proofs.record_flaws.FlawLaws.{ranks_all}
 use Rattle.soundness.proofs.record_flaws.ranks_with.Goals as goal
-
-pub loop-k-init : goal.loop-k-init
-loop-k-init c = (omega arith, search rules, fill_start _)
-
-pub loop-k-preserved : goal.loop-k-preserved
-loop-k-preserved c =
-    let inv = c.loop-k.invariant in
-    (omega arith, simp length-set inv.1, fill_next _ _ _ _ (omega arith) inv.2 refl)
 
 pub returns : goal.returns
 returns c =
-    let inv = c.loop-k.invariant in
-    let a = c.args.ranks in
-    let b = c.args.o.ranks in
-    let p : length a ≡ 8 = search rules in
-    let q : length b ≡ 8 = search rules in
-    let e : c.loop-k.k ≡ 8 = omega arith in
-    λ n. ap (zero_beyond n) (fill_end _ _ 8 inv.1 (rw e at inv.2)) ∙ overlaid_beyond a b p q n
+    let ranks = c.args.ranks in
+    let own = c.args.o.ranks in
+    let eight : length ranks ≡ 8 = search rules in
+    let long : length own ≡ 8 = search rules in
+    ranks_all ranks own _ eight long
+    (filled_same (λ k. bit_or (get_or ranks k 0) (get_or own k 0)) (λ i y q low k. search rules) c.from_fn.ensures.items)

@@ -1,12 +1,7 @@
 -- The test of the entries so far.
-use mathlib.Core.Path.{◌≡◌}
-use Prim.Native.Nat.{◌≤◌, ◌-◌}
-use lib.ListN.{take, drop}
-use Rattle.model.specs.Lists.{all, is_zero}
+use Rattle.std.proofs.Common.{◌≡◌, take, drop}
+use Rattle.model.specs.Lists.{all}
 use Rattle.soundness.proofs.rows.zero_beyond.Given as goal
 
 abbrev pub invariant-loop-k : goal.invariant-loop-k
-invariant-loop-k l = (l.k ≤ 8) × (l.holds ≡ all is_zero (drop l.n (take l.k l.row)))
-
-abbrev pub decreases-loop-k : goal.decreases-loop-k
-decreases-loop-k l = 8 - l.k
+invariant-loop-k g l = l.holds ≡ all (λ x. g.T.PartialEq.eq x l.zero) (drop l.n (take l.k l.x-items))

@@ -2,6 +2,10 @@
 use native.Mathlib.Omega.{arith}
 use mathlib.Core.Path.{◌≡◌, sym}
 use Prim.Native.Nat.{◌+◌, ◌*◌}
+use mir.Syntax.{w8}
+use mir.Val.{Fits}
+use borrow.Author.Rules.{rules}
+use Rattle.model.specs.Bytes.{byte}
 use Rattle.model.specs.Lists.{part, is_zero}
 use Rattle.model.specs.Layout.{records_at, record_size, station_at, station_zero_at, record_zero_at, record_part}
 use Rattle.lists.proofs.Tests.{all_append}
@@ -13,11 +17,12 @@ returns c =
     let image = c.args.image.now in
     let i = c.args.i in
     let at = records_at + record_size * i in
+    let small : Fits w8 (byte image (at + station_at)) = search rules in
     let next : at + station_at + 1 ≡ at + station_zero_at = omega arith in
     rw (
       c.u32_at.ensures,
       c.u32_at-2.ensures,
-      zero_rest image (at + station_at) (omega arith) (omega (arith, c.type_inv.image (at + station_at))),
+      zero_rest image (at + station_at) (omega arith) small.fits,
       next,
       zero_word image (at + record_zero_at) (omega arith),
       ← part_part image at record_size station_zero_at 3 (omega arith),

@@ -1,20 +1,10 @@
-use mathlib.Core.Path.{◌≡◌, ap, ◌∙◌}
-use native.Mathlib.Omega.{arith}
-use lib.ListN.{length, length-set, get_or}
-use borrow.Author.Rules.{rules}
+use Rattle.std.proofs.Common.{◌≡◌, length, rules, arith}
 use Rattle.model.specs.State.{idle}
 use Rattle.model.specs.Tick.{one_less}
-use Rattle.lists.proofs.Fills.{replaced_read, replaced_next}
+use Rattle.tick.proofs.entries.StationLaws.{next_replaced}
 use Rattle.tick.proofs.entries.tick_all.Goals as goal
 
-pub loop-k-preserved : goal.loop-k-preserved
-loop-k-preserved c =
-    let services = c.args.services in
-    let long : length services ≡ 8 = search rules in
-    -- The entry that is replaced is still as it was.
-    let read : get_or c.loop-k.list c.loop-k.k idle ≡ get_or services c.loop-k.k idle =
-    rw c.loop-k.invariant.2 (replaced_read one_less idle services c.loop-k.k) in (
-      omega arith,
-      simp length-set c.loop-k.invariant.1,
-      replaced_next one_less idle services _ c.loop-k.k _ (omega arith) c.loop-k.invariant.2 (c.ticked.ensures ∙ ap one_less read),
-    )
+pub loop-entry-preserved : goal.loop-entry-preserved
+loop-entry-preserved c =
+    let long : length c.args.services ≡ 8 = search rules in
+    next_replaced one_less idle c.args.services (omega arith) c.loop-entry.invariant c.take_tick.ensures

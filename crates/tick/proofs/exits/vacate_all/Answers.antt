@@ -1,20 +1,7 @@
-use mathlib.Core.Path.{◌≡◌, ap, ◌∙◌}
-use native.Mathlib.Omega.{arith}
-use lib.ListN.{length, length-set, get_or}
-use borrow.Author.Rules.{rules}
-use Rattle.model.specs.State.{idle}
+use Rattle.std.proofs.Common.{rules}
 use Rattle.model.specs.Tick.{vacate}
-use Rattle.lists.proofs.Fills.{replaced_read, replaced_next}
+use Rattle.lists.proofs.Arrays.{mapped}
 use Rattle.tick.proofs.exits.vacate_all.Goals as goal
 
-pub loop-k-preserved : goal.loop-k-preserved
-loop-k-preserved c =
-    let services = c.args.services in
-    let long : length services ≡ 8 = search rules in
-    -- The entry that is replaced is still as it was.
-    let read : get_or c.loop-k.list c.loop-k.k idle ≡ get_or services c.loop-k.k idle =
-    rw c.loop-k.invariant.2 (replaced_read vacate idle services c.loop-k.k) in (
-      omega arith,
-      simp length-set c.loop-k.invariant.1,
-      replaced_next vacate idle services _ c.loop-k.k _ (omega arith) c.loop-k.invariant.2 (c.vacated.ensures ∙ ap vacate read),
-    )
+pub returns : goal.returns
+returns c = mapped vacate (search rules) c.map.ensures.items (λ p x y q k. search rules)

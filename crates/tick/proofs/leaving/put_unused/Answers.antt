@@ -1,9 +1,17 @@
-use native.Mathlib.Omega.{arith}
-use borrow.Author.Rules.{rules}
-use Rattle.tick.proofs.leaving.LeaveLaws.{unused_more}
+-- The records from place `kept` on are the part that is filled.
+use Rattle.std.proofs.Common.{rules, ◌≡◌, ℕ, ◌+◌, ◌-◌, ◌*◌, ◌≤◌, length, arith}
+use borrow.Rule.Slice.PartMut.{mid_len}
+use lib.ListN.{length-replicate}
+use Rattle.model.specs.Layout.{records_at, record_size}
+use Rattle.lists.proofs.Parts.{stored_mid}
 use Rattle.tick.proofs.leaving.put_unused.Goals as goal
 
-pub loop-j-preserved : goal.loop-j-preserved
-loop-j-preserved c =
-    let inv = c.loop-j.invariant in
-    (omega arith, omega arith, search rules, unused_more _ c.loop-j.j inv.0 inv.3 c.unused_order.ensures c.put_order.ensures.0)
+pub returns : goal.returns
+returns c =
+    let at = records_at + record_size * c.args.kept in
+    let end = records_at + record_size * c.args.live in
+    let image = c.args.image.now in
+    let whole : length image ≡ 2128 = search rules in
+    let size : end - at ≡ record_size * (c.args.live - c.args.kept) = omega arith in
+    let room : end ≤ length image = omega arith in
+    rw (c.fill.ensures.after (λ y e. e), mid_len at end image room, size) (stored_mid at _ image _ (omega arith) (length-replicate {A = ℕ} _ 0))

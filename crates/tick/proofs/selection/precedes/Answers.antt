@@ -1,17 +1,9 @@
--- By the tests: the first figures that differ decide, in the code as in the definition.
-use mathlib.Core.Path.{sym, ◌∙◌}
-use Rattle.schedule.proofs.Precedence.{before_equal, before_other, before_last}
+-- The order of tuples is that of the key.
+use Rattle.std.proofs.Common.{◌∙◌}
 use Rattle.tick.specs.Selection.{key_of}
+use Rattle.tick.proofs.selection.CandidateLaws.{tuples_lem}
 use Rattle.tick.proofs.selection.precedes.Goals as goal
 
-pub returns-then-c-other-2 : goal.returns-then-c-other-2
+pub returns : goal.returns
 unfolding key_of
-returns-then-c-other-2 c = sym (before_equal _ _ _ _ c.if-c-other.true ∙ before_equal _ _ _ _ c.if-c-other-2.true ∙ before_last _ _)
-
-pub returns-else-c-other-2 : goal.returns-else-c-other-2
-unfolding key_of
-returns-else-c-other-2 c = sym (before_equal _ _ _ _ c.if-c-other.true ∙ before_other _ _ _ _ c.if-c-other-2.false)
-
-pub returns-else-c-other : goal.returns-else-c-other
-unfolding key_of
-returns-else-c-other c = sym (before_other _ _ _ _ c.if-c-other.false)
+returns c = c.lt.ensures ∙ tuples_lem _ _ _ _ _ _

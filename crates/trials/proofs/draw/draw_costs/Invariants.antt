@@ -1,10 +1,6 @@
 -- The loop fills the row from the front, a step of the generator for each cost.
-use Rattle.std.proofs.Common.{◌-◌}
 use Rattle.trials.proofs.Draws.{Drawing}
 use Rattle.trials.proofs.draw.draw_costs.Given as goal
 
 abbrev pub invariant-loop-k : goal.invariant-loop-k
 invariant-loop-k l = Drawing l.seed l.n l.most l.k l.row l.s
-
-abbrev pub decreases-loop-k : goal.decreases-loop-k
-decreases-loop-k l = 8 - l.k

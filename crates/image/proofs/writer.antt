@@ -1,2 +1,0 @@
--- A row of eight.
-pub mod Eight

@@ -1,0 +1,2 @@
+-- The walk over the lent list.
+pub mod Walk

@@ -1,2 +1,0 @@
--- What a list filled with figures is.
-pub mod Filled

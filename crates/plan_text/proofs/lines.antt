@@ -1,2 +1,0 @@
--- The law by which a line is read.
-pub mod LineLaws

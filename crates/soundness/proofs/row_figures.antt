@@ -1,0 +1,2 @@
+-- Laws of figures.
+pub mod FigureLaws
