@@ -207,7 +207,7 @@ extern "C" {
 #define DISPATCHER_OFFER_STACK 2560
 #define DISPATCHER_QUOTE_FORMAT_STACK 2560
 #define DISPATCHER_OFFER_FORMAT_STACK 2560
-#define DISPATCHER_ADVANCE_STACK 2816
+#define DISPATCHER_ADVANCE_STACK 2560
 
 /* The numbers that the calls below return. */
 #define DISPATCHER_DONE 0             /* the call is done */
