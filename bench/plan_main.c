@@ -3,8 +3,8 @@
  * First all three must print the same for each INPUT, and what the second simulator printed (the file beside it that ends in .out): the first difference ends
  * the program with status 1. Then they are timed as timing.h says, in nanoseconds for one plan of 32 tasks at 8 stations:
  *
- *   over task records   plan_probe_rounds, which plans a table over and over, each time on the records as the time before left them. The array of records
- *                       goes in and out by value (plan_array), for only Rattle code can lend a slice of records to plan. The C works on its records in place;
+ *   over task records   plan_probe_rounds, which plans a table over and over, each time on the records as the time before left them. It is Rattle code that
+ *                       lends them to plan, since C cannot lend a slice of records. The C works on its records in place, too;
  *   text to text        plan_probe_text: all that the program does between reading and writing.
  *
  * The tables go to the file TABLES as well. The last line has the worst ratio, library time by the time of the faster C; the status is 1 if that is above
