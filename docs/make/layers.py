@@ -154,28 +154,27 @@ nothing is run.
 """
 WALK = """
 dispatcher_c::dispatcher_offer                  the C entry: image, order block and reply are lent
-  dispatcher::offer::dispatcher_offer           the call, proved to meet its definition: question 1, the reply's length
-    dispatcher::offer::offer                    question 2, the image's length; then
-      soundness::questions::sound_image         3 and 4, its mark, and
-        soundness::whole::sound                 whether it is sound, clause by clause
-          image::decode::order_at               a record of the image as an Order
-            image::reader::u32_at               four bytes as a number
-      dispatcher::offer_parts::lent_block       5, and after "yes"
-        admission::block::block_of              the order block as a Block
-      dispatcher::offer_parts::offered          what is left, the same for a block that stands for an order by format
-        admission::order_questions::offer       questions 6 to 12
-          image::decode::decode                 the state that the image says, once 6 to 10 pass
-          admission::margins::try_all           each live order with the arrival in its interference set
-            admission::interference::joined_by  its sum and maxima then
-            soundness::row_limits::counted_total  those of the maxima that its delay bound counts, added up
-          admission::decision::decide           11 and 12, by the margins
-        admission::acceptance::accept           if no question is answered "no": the image with the arrival accepted
-          image::encode::put_order              the record of each live order, and the arrival's
-            image::writer::put_rows             its costs and maxima as 16 bytes each
-          image::encode::put_header             one more live order, and the next ticket
-        admission::decision::done               number, ticket, tick and margin
-    dispatcher::replies::put_answer             what it came to, a "no" by its number and zeros, into the reply
-      image::writer::put_u32                    a number as four bytes
+  dispatcher::offer::dispatcher_offer           the call, proved to meet its definition: questions 1 and 2, the lengths
+    soundness::questions::sound_image           3 and 4, the image's mark, and
+      soundness::whole::sound                   whether it is sound, clause by clause
+        image::decode::order_at                 a record of the image as an Order
+          image::reader::u32_at                 four bytes as a number
+    dispatcher::offer_parts::lent_block         5, and after "yes"
+      admission::block::block_of                the order block as a Block
+    dispatcher::offer_parts::offered            what is left, the same for a block that stands for an order by format
+      admission::order_questions::offer         questions 6 to 12
+        image::decode::decode                   the state that the image says, once 6 to 10 pass
+        admission::margins::try_all             each live order with the arrival in its interference set
+          admission::interference::joined_by    its sum and maxima then
+          soundness::row_limits::counted_total  those of the maxima that its delay bound counts, added up
+        admission::decision::decide             11 and 12, by the margins
+      admission::decision::done                 number, ticket, tick and margin
+      dispatcher::replies::put_answer           what it came to, a "no" by its number and zeros, into the reply
+        image::writer::put_u32                  a number as four bytes
+      admission::acceptance::accept             then, if no question is answered "no", the image with the arrival accepted
+        image::encode::put_order                the record of each live order, and the arrival's
+          image::writer::put_rows               its costs and maxima as 16 bytes each
+        image::encode::put_header               one more live order, and the next ticket
 """
 
 

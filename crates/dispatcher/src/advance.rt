@@ -3,7 +3,6 @@ ghost use Rattle.model.specs.Calls.{advance_call};
 ghost use Rattle.dispatcher.specs.Gives.{Gives};
 
 use super::advance_parts::advanced;
-use super::replies::put_answer;
 use image::layout::REPLY_SIZE;
 use soundness::questions::Refusal;
 
@@ -14,5 +13,5 @@ pub fn dispatcher_advance(image: &mut [u8], reply: &mut [u8]) -> u32
     let Some(reply) = reply.as_mut_array::<REPLY_SIZE>() else {
         return u32::from(Refusal::ReplyLength);
     };
-    put_answer(reply, advanced(image))
+    advanced(image, reply)
 }

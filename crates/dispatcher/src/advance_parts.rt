@@ -6,12 +6,13 @@ ghost use Rattle.model.specs.Tick.{starts, tick, advance};
 ghost use Rattle.model.specs.Calls.{advance_call};
 ghost use Rattle.image.specs.Pipeline.{listed};
 ghost use Rattle.image.specs.SoundPipeline.{SoundPipeline};
-ghost use Rattle.dispatcher.specs.Comes.{Comes, given_by};
+ghost use Rattle.dispatcher.specs.Gives.{Gives};
 
+use super::replies::put_answer;
 use admission::decision::Reply;
 use image::decode::decode;
 use image::encode::{put_header, put_services};
-use image::layout::{CLOCK_AT, IMAGE_SIZE};
+use image::layout::{CLOCK_AT, IMAGE_SIZE, REPLY_SIZE};
 use image::pipeline::Pipeline;
 use image::reader::u32_at;
 use model::Service;
@@ -34,24 +35,28 @@ fn put_after(image: &mut [u8; IMAGE_SIZE], p: Pipeline, services: [Service; 8])
 }
 
 // Questions 2 to 4 and 13, and the course of one tick. 13 is asked of the image's clock before the records are read: asked of
-// the state after that, it costs a copy of the records. Neither a clock that goes past its end nor the clock from before in
-// the reply meets the promise.
-pub fn advanced(image: &mut [u8]) -> Result<Reply, Refusal>
-    ensures { Comes (advance_call image.old) image.new (given_by result) }
+// the state after that, it costs a copy of the records. The reply is written first, and then the image. Neither a clock that goes
+// past its end nor the clock from before in the reply meets the promise.
+pub fn advanced(image: &mut [u8], reply: &mut [u8; REPLY_SIZE]) -> u32
+    ensures { Gives (advance_call image.old reply.old) result image.new reply.new }
 {
     let Some(image) = image.as_mut_array::<IMAGE_SIZE>() else {
-        return Err(Refusal::ImageLength);
+        return put_answer(reply, Err(Refusal::ImageLength));
     };
-    sound_image(image)?;
+    if let Err(refusal) = sound_image(image) {
+        return put_answer(reply, Err(refusal));
+    }
     if LAST_TICK <= u32_at(image, CLOCK_AT) {
-        return Err(Refusal::Clock);
+        return put_answer(reply, Err(Refusal::Clock));
     }
     let p = decode(image);
     let services = served(p);
-    put_after(image, p, services);
-    Ok(Reply {
+    let given = Reply {
         ticket: ticket_out(usize::from(p.n), services),
         tick: p.clock + 1,
         ..Reply::default()
-    })
+    };
+    let number = put_answer(reply, Ok(given));
+    put_after(image, p, services);
+    number
 }

@@ -46,18 +46,6 @@ pub fn dispatcher_quote_format(
     put_answer(reply, quote(image, order))
 }
 
-// Questions 2 to 5, 19 and 20, and the offer of the block that the order stands for.
-fn offer(image: &mut [u8], order: FormatOrder<'_>) -> Result<Reply, Refusal>
-    ensures { Comes (offer_format_call image.old (said order.entry)) image.new (given_by result) }
-{
-    let Some(image) = image.as_mut_array::<IMAGE_SIZE>() else {
-        return Err(Refusal::ImageLength);
-    };
-    sound_image(image)?;
-    let block = format_block(image, order)?;
-    Ok(offered(image, block))
-}
-
 // Takes an order by format, if every question passes. Neither the block of another format accepted nor a decline that writes into
 // the image meets the promise.
 pub fn dispatcher_offer_format(
@@ -79,5 +67,14 @@ pub fn dispatcher_offer_format(
     let Some(reply) = reply.as_mut_array::<REPLY_SIZE>() else {
         return u32::from(Refusal::ReplyLength);
     };
-    put_answer(reply, offer(image, order))
+    let Some(image) = image.as_mut_array::<IMAGE_SIZE>() else {
+        return put_answer(reply, Err(Refusal::ImageLength));
+    };
+    if let Err(refusal) = sound_image(image) {
+        return put_answer(reply, Err(refusal));
+    }
+    match format_block(image, order) {
+        Ok(block) => offered(image, block, reply),
+        Err(refusal) => put_answer(reply, Err(refusal)),
+    }
 }

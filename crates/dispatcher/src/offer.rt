@@ -29,18 +29,6 @@ pub fn dispatcher_quote(image: &[u8], order: &[u8], reply: &mut [u8]) -> u32
     put_answer(reply, quote(image, order))
 }
 
-// Questions 2 to 5, and the offer of the block.
-fn offer(image: &mut [u8], order: &[u8]) -> Result<Reply, Refusal>
-    ensures { Comes (offer_call image.old order.now) image.new (given_by result) }
-{
-    let Some(image) = image.as_mut_array::<IMAGE_SIZE>() else {
-        return Err(Refusal::ImageLength);
-    };
-    sound_image(image)?;
-    let block = lent_block(order)?;
-    Ok(offered(image, block))
-}
-
 // Takes an order, if every question passes. Neither a decline that writes into the image nor an acceptance that leaves it
 // alone meets the promise.
 pub fn dispatcher_offer(image: &mut [u8], order: &[u8], reply: &mut [u8]) -> u32
@@ -49,5 +37,14 @@ pub fn dispatcher_offer(image: &mut [u8], order: &[u8], reply: &mut [u8]) -> u32
     let Some(reply) = reply.as_mut_array::<REPLY_SIZE>() else {
         return u32::from(Refusal::ReplyLength);
     };
-    put_answer(reply, offer(image, order))
+    let Some(image) = image.as_mut_array::<IMAGE_SIZE>() else {
+        return put_answer(reply, Err(Refusal::ImageLength));
+    };
+    if let Err(refusal) = sound_image(image) {
+        return put_answer(reply, Err(refusal));
+    }
+    match lent_block(order) {
+        Ok(block) => offered(image, block, reply),
+        Err(refusal) => put_answer(reply, Err(refusal)),
+    }
 }

@@ -5,13 +5,15 @@ ghost use Rattle.model.specs.Questions.{first_no};
 ghost use Rattle.model.specs.Admission.{block_length_question, block_of};
 ghost use Rattle.soundness.specs.Questions.{number_given};
 ghost use Rattle.dispatcher.specs.Comes.{Comes, Sound};
+ghost use Rattle.dispatcher.specs.Gives.{Gives};
 ghost use Rattle.dispatcher.specs.Taken.{offer_taken, quote_taken};
 
+use super::replies::put_answer;
 use admission::acceptance::accept;
 use admission::block::block_of;
 use admission::decision::Reply;
 use admission::order_questions::offer;
-use image::layout::{BLOCK_SIZE, IMAGE_SIZE};
+use image::layout::{BLOCK_SIZE, IMAGE_SIZE, REPLY_SIZE};
 use model::Block;
 use soundness::questions::Refusal;
 
@@ -39,18 +41,20 @@ pub fn quoted(image: &[u8; IMAGE_SIZE], b: Block) -> Reply
     }
 }
 
-// An offer of a block, likewise. An order that is accepted is written into the image, where it differs. Neither a decline that
-// writes into the image nor an acceptance that leaves it alone meets the promise.
-pub fn offered(image: &mut [u8; IMAGE_SIZE], b: Block) -> Reply
+// An offer of a block, likewise. The reply is written first, and then, of an order that is accepted, the image, where it differs.
+// Neither a decline that writes into the image nor an acceptance that leaves it alone meets the promise.
+pub fn offered(image: &mut [u8; IMAGE_SIZE], b: Block, reply: &mut [u8; REPLY_SIZE]) -> u32
     requires { Sound image.old }
-    ensures { Comes (offer_taken image.old b) image.new result }
+    ensures { Gives (offer_taken image.old b reply.old) result image.new reply.new }
 {
     match offer(image, b) {
         Ok(accepted) => {
             let arrival = accepted.arrival;
+            let given = Reply::done(arrival.ticket, accepted.figures);
+            let number = put_answer(reply, Ok(given));
             accept(image, b, arrival);
-            Reply::done(arrival.ticket, accepted.figures)
+            number
         }
-        Err(decline) => Reply::from(decline),
+        Err(decline) => put_answer(reply, Ok(Reply::from(decline))),
     }
 }

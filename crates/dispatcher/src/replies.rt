@@ -9,7 +9,7 @@ use soundness::questions::Refusal;
 
 // All its bytes; the margin by its 32 bits. Neither the tick in the place of the ticket nor a margin below zero without its
 // sign, nor 0 for it, meets the promise.
-fn put_reply(reply: &mut [u8; REPLY_SIZE], given: Reply)
+pub fn put_reply(reply: &mut [u8; REPLY_SIZE], given: Reply)
     ensures { reply.new ≡ given_bytes given }
 {
     put_u32(reply, REPLY_NUMBER_AT, given.number);

@@ -1,7 +1,7 @@
 -- As a quote, with the ticket; and where it is accepted, the order is written into the image.
-use mathlib.Core.Path.{◌≡◌, refl, ◌∙◌}
-use lib.ListN.{length}
+use mathlib.Core.Path.{refl}
 use borrow.Author.Rules.{rules}
+use Rattle.dispatcher.proofs.replies.Declines.{gives_back}
 use Rattle.dispatcher.proofs.offer_parts.TakenLaws.{offer_declined, offer_done, ticket_is, acceptable}
 use Rattle.dispatcher.proofs.offer_parts.offered.Goals as goal
 
@@ -10,7 +10,8 @@ accept-requires c = acceptable _ _ c.in-Ok.ensures c.requires (search rules) (se
 
 pub returns-in-Ok : goal.returns-in-Ok
 returns-in-Ok c =
-    rw (c.done.ensures, c.accept.ensures, ticket_is _ _ c.in-Ok.ensures) (λ reply whole. offer_done _ _ reply _ c.in-Ok.ensures.decides refl)
+    gives_back (offer_done _ _ _ _ c.in-Ok.ensures.decides refl) (rw c.done-given.ensures at c.put_answer-number.ensures.number) c.accept.ensures (rw (c.done-given.ensures, ticket_is _ _ c.in-Ok.ensures) at c.put_answer-number.ensures.bytes)
 
 pub returns-in-Err : goal.returns-in-Err
-returns-in-Err c = rw c.from.ensures (λ reply whole. offer_declined _ _ reply c.in-Err.ensures.decides)
+returns-in-Err c =
+    gives_back (offer_declined _ _ _ c.in-Err.ensures.decides) (rw c.from.ensures at c.put_answer.ensures.number) refl (rw c.from.ensures at c.put_answer.ensures.bytes)
