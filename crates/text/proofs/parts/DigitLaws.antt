@@ -1,7 +1,7 @@
 -- A word, digit by digit: form and value of the digits that are left decide those of the whole. The tests are those of the code that reads it.
 use mathlib.Core.Path.{◌≡◌, refl, ◌∙◌}
 use mathlib.Core.Bool.{Bool, true, false, ◌||◌}
-use mathlib.Core.List.{List, ◌∷◌, foldl}
+use mathlib.Core.List.{List, [], ◌∷◌, foldl}
 use Prim.Native.Nat.{ℕ, ◌+◌, ◌*◌, ◌^◌, ◌≤◌, ◌<◌}
 use native.Mathlib.Nat.{pow-suc}
 use native.Mathlib.Numerals.{add-one}
@@ -60,3 +60,11 @@ module _ {word : List ℕ} {value i : ℕ} (k : Digits word value i) where
   pub digits_all : length word ≤ i → (all is_digit word ≡ true) × (value_of word ≡ value)
   unfolding all
   digits_all h = (k.form ∙ rw (drop_of_length-le word h), k.left ∙ rw (drop_of_length-le word h))
+
+  -- What the digits read say is no more than what the word says.
+  pub digits_least : value ≤ value_of word
+  digits_least = rw k.left (grows value (drop i word))
+    where
+      grows : (v : ℕ) (l : List ℕ) → v ≤ foldl appended v l
+      grows v [] = omega arith
+      grows v (d ∷ l) = omega (arith, grows (appended v d) l)
