@@ -1,6 +1,6 @@
 -- The margins, read from their bits, and their signs.
 use mathlib.Core.Path.{◌≡◌, sym, ap, ◌∙◌}
-use mathlib.Core.Bool.{Bool}
+use mathlib.Core.Bool.{Bool, false}
 use mathlib.Core.List.{[], ◌∷◌}
 use lib.IntN.{ℤ, pos}
 use lib.Signed.{lt_z}
@@ -41,4 +41,4 @@ unfolding decision_of
 returns c =
     let own_is : to_z w32 (of_z w32 c.of-own.result.margin) ≡ margin c.args.limits.n c.args.arrival = to_z-of_z {w = w32} (search rules) ∙ c.of-own.ensures.margin_is in
     let least_is = least_read (record { sfits = c.min-least.type_inv }) c.min-least.ensures.value own_is (to_z-of_z c.ranges.others) in
-    rw (sign own_is c.if-own-lt0.false, sign least_is c.if-least-lt0.false, least_is, c.of-own.ensures.tick_is)
+    rw (sign own_is c.if-own-lt0.false, sign {t = false} least_is (search rules), least_is, c.of-own.ensures.tick_is)
